@@ -1,0 +1,46 @@
+-- The numbers of a book. Document 01: "All numbers are little-endian; 16 bits unless said."
+use Prim.Native.Nat.{ℕ, _+_, _*_, _-_}
+use mathlib.Core.Bool.{Bool, _&&_}
+use mathlib.Core.List.{List}
+use lib.Dec.{ltb}
+use lib.ListN.{getD}
+use lib.IntN.{ℤ, pos, negsuc}
+use lib.Signed.{leZ}
+use Rattle.numbers.specs.Choice.{if_then_else_}
+
+-- how many numbers 16 bits hold
+abbrev pub halfLimit : ℕ
+halfLimit = 65536
+
+abbrev pub halfOf : ℕ → ℕ → ℕ
+halfOf low high = low + high * 256
+
+-- the 16 bits at place i of a list of bytes; bytes past its end count as 0
+abbrev pub halfAt : List ℕ → ℕ → ℕ
+halfAt s i = halfOf (getD s i 0) (getD s (i + 1) 0)
+
+-- 32 bits: two halves, the low one first
+abbrev pub wordOf : ℕ → ℕ → ℕ → ℕ → ℕ
+wordOf a b c d = halfOf a b + halfOf c d * halfLimit
+
+-- "32 bits, two's complement"
+abbrev pub signed : ℕ → ℤ
+signed w = if ltb w 2147483648 then pos w else negsuc (4294967295 - w)
+
+abbrev pub numberOf : ℕ → ℕ → ℕ → ℕ → ℤ
+numberOf a b c d = signed (wordOf a b c d)
+
+-- "Every n lies in −1,000,000 to 1,000,000."
+abbrev pub lowest : ℤ
+lowest = negsuc 999999
+
+abbrev pub highest : ℤ
+highest = pos 1000000
+
+abbrev pub isWithin : ℤ → ℤ → ℤ → Bool
+isWithin n low high = leZ low n && leZ n high
+
+-- a count of n: none where n is 0 or less
+abbrev pub countOf : ℤ → ℕ
+countOf (pos n) = n
+countOf (negsuc n) = 0

@@ -1,0 +1,57 @@
+// The numbers of a book: little-endian, of 16 bits and of 32 in two's complement.
+ghost use mathlib.Core.Path.{_≡_};
+ghost use Prim.Native.Nat.{_<_};
+ghost use Rattle.numbers.specs.Numbers.{halfLimit, halfOf, halfAt, numberOf, isWithin, countOf};
+
+// The ends of n.
+pub const LOWEST: i32 = -1000000;
+
+pub const HIGHEST: i32 = 1000000;
+
+// A number of 16 bits, from its low and its high byte.
+pub fn half(low: u8, high: u8) -> usize
+    ensures { λ r. ⌜ (r ≡ halfOf low high) × (r < halfLimit) ⌝ }
+{
+    (low as usize) + (high as usize) * 256
+}
+
+// The number of 16 bits at a place of a slice; bytes past the end count as 0.
+pub fn half_at(s: &[u8], at: usize) -> usize
+    ensures { λ r. ⌜ (r ≡ halfAt (now (s .entry)) at) × (r < halfLimit) ⌝ }
+{
+    if s.len() <= at {
+        return 0;
+    }
+    let next = at + 1;
+    if s.len() <= next {
+        return half(s[at], 0);
+    }
+    half(s[at], s[next])
+}
+
+// The number of 32 bits, in two's complement, whose bytes are these, lowest first.
+pub fn number(a: u8, b: u8, c: u8, d: u8) -> i32
+    ensures { λ r. ⌜ r ≡ numberOf a b c d ⌝ }
+{
+    let word = (a as u32) + (b as u32) * 256 + ((c as u32) + (d as u32) * 256) * 65536;
+    if word < 2147483648 {
+        word as i32
+    } else {
+        let up = 4294967295 - word;
+        0 - (up as i32) - 1
+    }
+}
+
+// Whether n lies between two ends, both included.
+pub fn is_within(n: i32, low: i32, high: i32) -> bool
+    ensures { λ r. ⌜ r ≡ isWithin n low high ⌝ }
+{
+    low <= n && n <= high
+}
+
+// How many times a step with the number n counts: none where n is 0 or less.
+pub fn count(n: i32) -> usize
+    ensures { λ r. ⌜ r ≡ countOf n ⌝ }
+{
+    if n < 0 { 0 } else { n as usize }
+}
