@@ -1,0 +1,105 @@
+-- What the layers above lean on in an accepted book: each routine is read through the part of the book that showing it gives.
+-- That part is the routine's own steps, so its steps and places are those of the book.
+-- As functions the places are equal, so what the book's clauses say of the one holds of the other.
+use Prim.Native.Nat.{ℕ, suc, _+_, _-_, _*_, _/_, _≤_, _<_}
+use mathlib.Core.Path.{_≡_, _∙_, fun-ext, subst⁻¹}
+use mathlib.Core.Bool.{and-false}
+use mathlib.Core.List.{List, []}
+use mathlib.Core.Logic.{_⊎_}
+use native.Mathlib.Decide.{decLt}
+use native.Mathlib.Nat.{mul-div-right}
+use native.Mathlib.Omega.{arith}
+use borrow.Author.Tests.{lt-ltb, le-ltb}
+use lib.ListN.{length, take}
+use Rattle.kinds.specs.declared.Kind.{Kind}
+use Rattle.kinds.specs.declared.Step.the-variants as step
+use Rattle.kinds.specs.declared.Form.the-variants.{ElseMarker, EndMarker}
+use Rattle.book.specs.Layout.{routinesOf, stepsOf, firstStep, stepCount}
+use Rattle.kinds.specs.Steps.{stepBytes, stepAt}
+use Rattle.blocks.specs.Blocks.{View, stands, viewAt, deepest, partnerOf}
+use Rattle.book.specs.Book.{countsOf, stepsPart, routinePart, viewOf, shown}
+use Rattle.blocks.specs.Parse.{ParsedBlock, WhilesPause}
+use Rattle.book.specs.Accepted.{Accepted}
+use Rattle.book.specs.Tells.{nothing}
+use Rattle.book.proofs.Directory as directory
+use Rattle.kinds.proofs.Readable.{rowAt, readable-step}
+use Rattle.book.proofs.Parts.{step-of-book, step-taken, step-routine, shown-length}
+use Rattle.blocks.proofs.Scan.{finds-partner}
+use Rattle.book.proofs.Telling.{told-only}
+
+-- what stands at a place of what is shown of routine r
+abbrev pub shownAt : List ℕ → ℕ → ℕ → View
+shownAt s r = viewAt (countsOf s) (shown s r) (stepCount s r)
+
+-- a number not below R shows nothing, whatever the book is told
+pub shown-none : (s : List ℕ) (r : ℕ) → routinesOf s ≤ r → shown s r ≡ []
+unfolding shown
+shown-none s r h = rw (le-ltb r (routinesOf s) h, and-false)
+
+module _ (s : List ℕ) (a : Accepted s) where
+  -- each step is one of the kinds
+  pub step-kind : (i : ℕ) → i < stepsOf s → (k : Kind) × (stepAt (countsOf s) (stepsPart s) i ≡ step.Kind k)
+  step-kind i h =
+      let there = step-of-book s (a .laid .offsets .size) i h in
+      (rowAt (countsOf s) (stepsPart s) i .4, readable-step (countsOf s) (stepsPart s) i there (a .readable i h))
+
+  -- a routine lies within the book's steps
+  pub routine-within : (r : ℕ) → r < routinesOf s → firstStep s r + stepCount s r ≤ stepsOf s
+  routine-within = directory.routine-within s (a .directed .entries) (a .directed .total)
+
+  -- r is one of its routines
+  module _ (r : ℕ) (h : r < routinesOf s) where
+    pub shown-routine : shown s r ≡ take (stepBytes * stepCount s r) (routinePart s r)
+    unfolding shown
+    shown-routine = rw (told-only s (nothing a), lt-ltb r (routinesOf s) h)
+
+    pub shown-size : length (shown s r) ≡ stepBytes * stepCount s r
+    shown-size =
+        let end = directory.routine-end s (a .directed .entries) (a .directed .total) (a .laid .offsets .size) r h in
+        rw shown-routine (shown-length s r end)
+
+    pub shown-steps : length (shown s r) / stepBytes ≡ stepCount s r
+    shown-steps = rw shown-size (mul-div-right (stepCount s r) (omega arith))
+
+    -- its steps are those of its part of the book, and so those where the directory says
+    shown-own : (i : ℕ) → i < stepCount s r → stepAt (countsOf s) (shown s r) i ≡ stepAt (countsOf s) (routinePart s r) i
+    shown-own i l = rw shown-routine (step-taken (stepCount s r) (routinePart s r) i l (countsOf s))
+
+    pub shown-step : (i : ℕ) → i < stepCount s r → stepAt (countsOf s) (shown s r) i ≡ stepAt (countsOf s) (stepsPart s) (firstStep s r + i)
+    shown-step i l = shown-own i l ∙ step-routine s r (countsOf s) i
+
+    pub shown-kind : (i : ℕ) → i < stepCount s r → (k : Kind) × (stepAt (countsOf s) (shown s r) i ≡ step.Kind k)
+    shown-kind i l =
+        let (k, e) = step-kind (firstStep s r + i) (omega (arith, routine-within r h)) in
+        (k, shown-step i l ∙ e)
+
+    pub shown-place : (p : ℕ) → shownAt s r p ≡ viewOf s r p
+    unfolding viewAt
+    shown-place p =
+        elim (decLt p (stepCount s r)) [
+          | yes l ↦ rw (lt-ltb p (stepCount s r) l, shown-own p l)
+          | no n ↦ rw (le-ltb p (stepCount s r) (omega arith))
+        ]
+
+    pub shown-places : shownAt s r ≡ viewOf s r
+    shown-places = fun-ext shown-place
+
+    parsed : (b : ParsedBlock (shownAt s r) deepest 0 (stepCount s r)) × WhilesPause (shownAt s r) b
+    parsed =
+        subst⁻¹ (λ at. (b : ParsedBlock at deepest 0 (stepCount s r)) × WhilesPause at b) shown-places (a .nesting r h, a .pausing r h)
+
+    -- "Nesting goes to depth 16."
+    pub shown-parse : ParsedBlock (shownAt s r) deepest 0 (stepCount s r)
+    shown-parse = parsed .0
+
+    -- "The body of each while must pause."
+    pub shown-pausing : WhilesPause (shownAt s r) shown-parse
+    unfolding shown-parse
+    shown-pausing = parsed .1
+
+    -- the search behind an opening, or behind an else, finds the marker at which the block there stops
+    pub shown-partner :
+        {d p q : ℕ} →
+        ParsedBlock (shownAt s r) d (suc p) q → (shownAt s r q ≡ stands ElseMarker) ⊎ (shownAt s r q ≡ stands EndMarker) →
+        partnerOf (shown s r) (length (shown s r) / stepBytes - (p + 1)) 0 (p + 1) ≡ q
+    shown-partner b k = rw shown-steps (finds-partner (countsOf s) (shown s r) (stepCount s r) b k)

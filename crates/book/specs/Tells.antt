@@ -1,0 +1,56 @@
+-- Document 01, "Turned down because of the input", said without computing: which number and place a book is told, and why.
+-- One case a refusal, with what the checks before it ask; a place is always the first of its kind.
+use Prim.Native.Nat.{ℕ, _+_, _<_, _≤_}
+use mathlib.Core.Path.{_≡_}
+use mathlib.Core.Bool.{true, false}
+use mathlib.Core.List.{List}
+use lib.ListN.{length}
+use Rattle.book.specs.Layout.{headerBytes, routinesOf, stepsOf, firstStep, stepCount, stepsBefore}
+use Rattle.blocks.specs.Blocks.{deepest}
+use Rattle.book.specs.Book.{viewOf}
+use Rattle.blocks.specs.Parse.{ParsedBlock, EachWhile, SomeWhile, WhilesPause, Misplaced}
+use Rattle.book.specs.Accepted.{CountsInRange, OffsetsRight, LaidOut, DirectoryRight, ReadableStep, Accepted}
+
+-- every step is "taken apart into one of the 21 kinds"; routine r nests
+abbrev pub AllReadable : List ℕ → Type 0
+AllReadable s = (i : ℕ) → i < stepsOf s → ReadableStep s i
+
+abbrev pub Nests : List ℕ → ℕ → Type 0
+Nests s r = ParsedBlock (viewOf s r) deepest 0 (stepCount s r)
+
+pub data Tells (s : List ℕ) : ℕ → ℕ → Type 0 where
+  -- "both 0 where nothing is turned down"
+  nothing : Accepted s → Tells s 0 0
+  -- 1. "Fewer than 12 bytes (place 0)."
+  short : length s < headerBytes → Tells s 1 0
+  -- 2. "A count outside its range (place 0)."
+  counts : headerBytes ≤ length s → (CountsInRange s → ⊥) → Tells s 2 0
+  -- 3. "An offset or the length is wrong (place 0)."
+  offsets : headerBytes ≤ length s → CountsInRange s → (OffsetsRight s → ⊥) → Tells s 3 0
+  -- 4. "place is the first routine whose first step isn't the sum of the counts before it"
+  entry :
+      {r : ℕ} →
+      LaidOut s → r < routinesOf s → ((k : ℕ) → k < r → firstStep s k ≡ stepsBefore s k) → (firstStep s r ≡ stepsBefore s r → ⊥) →
+      Tells s 4 r
+  -- "or R if only the total isn't S"
+  total :
+      LaidOut s → ((k : ℕ) → k < routinesOf s → firstStep s k ≡ stepsBefore s k) → (stepsBefore s (routinesOf s) ≡ stepsOf s → ⊥) →
+      Tells s 4 (routinesOf s)
+  -- 5. "place is the first such step of the book"
+  step :
+      {p : ℕ} →
+      LaidOut s → DirectoryRight s → p < stepsOf s → ((i : ℕ) → i < p → ReadableStep s i) → (ReadableStep s p → ⊥) →
+      Tells s 5 p
+  -- 6. "Place is the step reached in reading order, routine by routine, numbered from the book's first step"
+  nesting :
+      {r p : ℕ} →
+      LaidOut s → DirectoryRight s → AllReadable s → r < routinesOf s → ((k : ℕ) → k < r → Nests s k) → Misplaced (viewOf s r) p →
+      Tells s 6 (firstStep s r + p)
+  -- 7. "the lowest such while": those of the routines before, and those that lie lower in its own, pause
+  pausing :
+      {r : ℕ} (p : ℕ) →
+      LaidOut s → DirectoryRight s → AllReadable s → (nests : (k : ℕ) → k < routinesOf s → Nests s k) → (here : r < routinesOf s) →
+      ((k : ℕ) (h : k < routinesOf s) → k < r → WhilesPause (viewOf s k) (nests k h)) →
+      EachWhile (viewOf s r) (λ x pauses. x < p → pauses ≡ true) (nests r here) →
+      SomeWhile (viewOf s r) (λ x pauses. (x ≡ p) × (pauses ≡ false)) (nests r here) →
+      Tells s 7 (firstStep s r + p)

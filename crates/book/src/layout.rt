@@ -1,0 +1,146 @@
+// The header and the directory of a book: refusals 1 to 4.
+use crate::Answer;
+use kinds::STEP_BYTES;
+use numbers::half_at;
+ghost use mathlib.Core.Path.{_≡_};
+ghost use Prim.Native.Nat.{_+_, _*_, _<_};
+ghost use Rattle.numbers.specs.Numbers.{halfLimit};
+ghost use Rattle.book.specs.Verdicts.{verdictOf};
+ghost use Rattle.book.specs.Layout.{headerBytes, entryBytes, routinesOf, stepsOf, signalsOf, countersOf, countsFit};
+ghost use Rattle.book.specs.Layout.{layoutFits, stepsFrom, firstStep, stepCount, layoutVerdict, directoryVerdict};
+
+const MOST_ROUTINES: usize = 64;
+
+const MOST_STEPS: usize = 1024;
+
+const MOST_SIGNALS: usize = 64;
+
+const MOST_COUNTERS: usize = 64;
+
+// The bytes of the header and of an entry of the directory.
+const HEADER_BYTES: usize = 12;
+
+const ENTRY_BYTES: usize = 4;
+
+pub fn routines(book: &[u8]) -> usize
+    ensures { λ r. ⌜ (r ≡ routinesOf (now (book .entry))) × (r < halfLimit) ⌝ }
+{
+    half_at(book, 0)
+}
+
+pub fn steps(book: &[u8]) -> usize
+    ensures { λ r. ⌜ (r ≡ stepsOf (now (book .entry))) × (r < halfLimit) ⌝ }
+{
+    half_at(book, 2)
+}
+
+pub fn signals(book: &[u8]) -> usize
+    ensures { λ r. ⌜ (r ≡ signalsOf (now (book .entry))) × (r < halfLimit) ⌝ }
+{
+    half_at(book, 4)
+}
+
+pub fn counters(book: &[u8]) -> usize
+    ensures { λ r. ⌜ (r ≡ countersOf (now (book .entry))) × (r < halfLimit) ⌝ }
+{
+    half_at(book, 6)
+}
+
+fn counts_fit(book: &[u8]) -> bool
+    ensures { λ r. ⌜ r ≡ countsFit (now (book .entry)) ⌝ }
+{
+    let all = routines(book);
+    if all < 1 {
+        return false;
+    }
+    if MOST_ROUTINES < all {
+        return false;
+    }
+    if MOST_STEPS < steps(book) {
+        return false;
+    }
+    if MOST_SIGNALS < signals(book) {
+        return false;
+    }
+    if MOST_COUNTERS < counters(book) {
+        return false;
+    }
+    true
+}
+
+// Where the steps begin: behind the header and the directory.
+pub fn steps_from(book: &[u8]) -> usize
+    ensures { λ r. ⌜ (r ≡ stepsFrom (now (book .entry))) × (r < headerBytes + entryBytes * halfLimit) ⌝ }
+{
+    HEADER_BYTES + ENTRY_BYTES * routines(book)
+}
+
+fn layout_fits(book: &[u8]) -> bool
+    ensures { λ r. ⌜ r ≡ layoutFits (now (book .entry)) ⌝ }
+{
+    if half_at(book, 8) != HEADER_BYTES {
+        return false;
+    }
+    let from = steps_from(book);
+    if half_at(book, 10) != from {
+        return false;
+    }
+    if book.len() != from + STEP_BYTES * steps(book) {
+        return false;
+    }
+    true
+}
+
+// Refusals 1 to 3.
+pub fn check_layout(book: &[u8]) -> Answer
+    ensures { λ r. ⌜ verdictOf r ≡ layoutVerdict (now (book .entry)) ⌝ }
+{
+    if book.len() < HEADER_BYTES {
+        return Answer::TooShort;
+    }
+    if counts_fit(book) {
+        if layout_fits(book) {
+            Answer::Accepted
+        } else {
+            Answer::WrongLayout
+        }
+    } else {
+        Answer::WrongCount
+    }
+}
+
+// The first step of a routine, by the directory.
+pub fn first_step(book: &[u8], routine: usize) -> usize
+    requires { ⌜ routine < halfLimit ⌝ }
+    ensures { λ r. ⌜ (r ≡ firstStep (now (book .entry)) routine) × (r < halfLimit) ⌝ }
+{
+    half_at(book, HEADER_BYTES + ENTRY_BYTES * routine)
+}
+
+// How many steps a routine has, by the directory.
+pub fn step_count(book: &[u8], routine: usize) -> usize
+    requires { ⌜ routine < halfLimit ⌝ }
+    ensures { λ r. ⌜ (r ≡ stepCount (now (book .entry)) routine) × (r < halfLimit) ⌝ }
+{
+    half_at(book, HEADER_BYTES + 2 + ENTRY_BYTES * routine)
+}
+
+// Refusal 4.
+pub fn check_directory(book: &[u8]) -> Answer
+    ensures { λ r. ⌜ verdictOf r ≡ directoryVerdict (now (book .entry)) ⌝ }
+{
+    let all = routines(book);
+    let mut routine: usize = 0;
+    let mut sum: usize = 0;
+    while routine < all {
+        if first_step(book, routine) != sum {
+            return Answer::WrongEntry(routine as u32);
+        }
+        sum += step_count(book, routine);
+        routine += 1;
+    }
+    if sum != steps(book) {
+        return Answer::WrongEntry(routine as u32);
+    }
+    Answer::Accepted
+}
