@@ -1,0 +1,16 @@
+#!/bin/sh
+# All tests: the gate, then the C program on the example books and the C call on the vectors and on damaged books.
+set -e
+cd "$(dirname "$0")/.."
+.ci/run
+examples/build.sh
+told() {
+    found=$(target/check_book "examples/$1.book") || true
+    echo "$1.book: $found"
+    [ "$found" = "$2" ] || { echo "expected: $2"; exit 1; }
+}
+told t3 "accepted"
+told endless "refused 7 1: a while's body does not pause"
+told wrong_step "refused 5 2: a step has an unknown op, a field out of range or a stray field"
+tests/damaged_books.sh
+echo "all tests passed"
