@@ -86,7 +86,7 @@ module _ (on : ℕ → ℕ) (d p : ℕ) where
       ap (λ (i : ℕ). partnerBy on i d p) (sym (zero-add op)) ∙ k ∙ ap (λ (g : Form). lookAt g on d p) e
   decoded-look false counts op a b n h = cc
 
-  -- the op decides the form
+  -- the op decides whether a step opens, is a marker, or neither
   pub step-look :
       (counts : Counts) (s : List ℕ) (i : ℕ) {f : Form} →
       seen (stepAt counts s i) ≡ stands f → partnerBy on (opAt s i) d p ≡ lookAt f on d p

@@ -125,8 +125,7 @@ abbrev pub opEnd : ℕ
 opEnd = 20
 
 -- "The search for an opening step's partner skips inner pairs and stops at the first marker that matches."
--- k steps are left from place p, and d inner pairs are open. Where a routine nests, the first marker in no inner pair is the one that
--- matches.
+-- Where a routine nests, the first marker in no inner pair is the one that matches. d inner pairs are open at place p.
 abbrev pub partnerBy : (ℕ → ℕ) → ℕ → ℕ → ℕ → ℕ
 partnerBy on op d p =
     let deeper = on (d + 1) in
@@ -137,6 +136,7 @@ partnerBy on op d p =
     else if eqb op opEnd then (if eqb d 0 then p else higher)
     else same
 
+-- k steps are left from place p
 unfoldable pub partnerOf : List ℕ → ℕ → ℕ → ℕ → ℕ
 partnerOf s zero d p = p
 partnerOf s (suc k) d p = partnerBy (λ e. partnerOf s k e (p + 1)) (opAt s p) d p

@@ -74,7 +74,7 @@ pub enum Walk {
     Fault(Fault),
 }
 
-// What becomes of a step opened at `opening` whose last block stops at `at`: it ends there if an end does.
+// What becomes of a step opened at `opening` whose last block stops at `at`: it ends behind the end there.
 fn closed_at(
     steps: &[u8],
     counts: Counts,

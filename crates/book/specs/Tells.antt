@@ -1,5 +1,5 @@
 -- Document 01, "Turned down because of the input", said without computing: which number and place a book is told, and why.
--- One case a refusal, with what the checks before it ask; a place is always the first of its kind.
+-- Each case has what the checks before it ask, and that nothing of its own kind is at fault earlier.
 use Prim.Native.Nat.{ℕ, _+_, _<_, _≤_}
 use mathlib.Core.Path.{_≡_}
 use mathlib.Core.Bool.{true, false}
@@ -46,7 +46,7 @@ pub data Tells (s : List ℕ) : ℕ → ℕ → Type 0 where
       {r p : ℕ} →
       LaidOut s → DirectoryRight s → AllReadable s → r < routinesOf s → ((k : ℕ) → k < r → Nests s k) → Misplaced (viewOf s r) p →
       Tells s 6 (firstStep s r + p)
-  -- 7. "the lowest such while": those of the routines before, and those that lie lower in its own, pause
+  -- 7. "the lowest such while": the bodies of those in the routines before, and of those that lie lower in its own, pause
   pausing :
       {r : ℕ} (p : ℕ) →
       LaidOut s → DirectoryRight s → AllReadable s → (nests : (k : ℕ) → k < routinesOf s → Nests s k) → (here : r < routinesOf s) →

@@ -63,7 +63,7 @@ fn numbered(first: usize, at: usize) -> u32
     (first + at) as u32
 }
 
-// Refusals 6 and 7 for one routine, read from the part of the book that begins at its first step.
+// Refusals 6 and 7 for one routine, and the reader's own 5, read from the part of the book that begins at its first step.
 fn check_routine(book: &[u8], routine: usize) -> Answer
     requires { ⌜ layoutVerdict (now book) ≡ accepted ⌝ }
     requires { ⌜ directoryVerdict (now book) ≡ accepted ⌝ }

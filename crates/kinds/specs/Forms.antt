@@ -1,4 +1,4 @@
--- What a step is to the blocks around it. Document 01: "A block pauses if one of its steps does."
+-- What a step is to the blocks around it: document 01, on blocks and pausing.
 use mathlib.Core.Bool.{Bool, true, false}
 use lib.Dec.{eqb}
 use Rattle.numbers.specs.Choice.{if_then_else_}
