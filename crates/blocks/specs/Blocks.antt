@@ -54,7 +54,7 @@ deepest = 16
 
 -- a routine of n steps; n also stands for no while, where the lowest whose body doesn't pause is told
 module _ (at : ℕ → View) (n : ℕ) where
-  -- "an if does [pause] if it has both blocks and both pause": the second block, behind the else at q
+  -- whether it pauses: "an if does if it has both blocks and both pause"; the second block, behind the else at q
   abbrev pub elseBy : (ℕ → Walk) → ℕ → ℕ → Bool → ℕ → Walk
   elseBy block p q u l = andThen (block (q + 1)) (λ r v m. closed (at r) p r (u && v) (min l m))
 

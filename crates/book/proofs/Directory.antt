@@ -1,13 +1,21 @@
 -- Where the directory keeps its rule, the routines lie one behind another, each within the steps of the book and its bytes within the book.
--- By the sums of the counts, which only grow.
-use Prim.Native.Nat.{ℕ, zero, suc, _+_, _*_, _≤_, _<_}
+-- By the sums of the counts, which only grow. Where the book ends before an entry, the entry reads 0.
+use Prim.Native.Nat.{ℕ, zero, suc, _+_, _*_, _/_, _≤_, _<_}
 use mathlib.Core.Path.{_≡_}
 use mathlib.Core.List.{List}
 use native.Mathlib.Omega.{arith}
 use native.Mathlib.Decide.{ℕ-discrete}
-use lib.ListN.{length}
+use lib.ListN.{length, List·getD-eq-default}
+use Rattle.numbers.specs.Numbers.{halfAt}
 use Rattle.kinds.specs.Steps.{stepBytes}
-use Rattle.book.specs.Layout.{routinesOf, stepsOf, stepsFrom, firstStep, stepCount, stepsBefore}
+use Rattle.book.specs.Layout.{headerBytes, entryBytes, routinesOf, stepsOf, stepsFrom, firstStep, stepCount, stepsBefore}
+use Rattle.book.specs.Book.{routineFrom}
+
+-- the numbers of routine r's entry, in a book without bytes there
+pub entry-missing : (s : List ℕ) {r : ℕ} (k : ℕ) → length s / entryBytes ≤ r → halfAt s (headerBytes + k + entryBytes * r) ≡ 0
+entry-missing s {r} k h =
+    let at = headerBytes + k + entryBytes * r in
+    rw (List·getD-eq-default s 0 {n = at} (omega arith), List·getD-eq-default s 0 {n = at + 1} (omega arith))
 
 -- the first n entries keep the directory's rule
 abbrev pub Entries : List ℕ → ℕ → Type 0
@@ -32,5 +40,5 @@ module _ (s : List ℕ) where
       pub routine-end : (r : ℕ) → r < routinesOf s → stepsFrom s + stepBytes * (firstStep s r + stepCount s r) ≤ length s
       routine-end r h = omega (arith, routine-within r h)
 
-      pub routine-start : (r : ℕ) → r < routinesOf s → stepsFrom s + stepBytes * firstStep s r ≤ length s
+      pub routine-start : (r : ℕ) → r < routinesOf s → routineFrom s r ≤ length s
       routine-start r h = omega (arith, routine-end r h)

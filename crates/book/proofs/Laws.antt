@@ -10,14 +10,14 @@ use native.Mathlib.Decide.{decLt}
 use native.Mathlib.Nat.{mul-div-right}
 use native.Mathlib.Omega.{arith}
 use borrow.Author.Tests.{lt-ltb, le-ltb}
-use lib.ListN.{length, take}
+use lib.ListN.{length}
 use Rattle.kinds.specs.declared.Kind.{Kind}
 use Rattle.kinds.specs.declared.Step.the-variants as step
 use Rattle.kinds.specs.declared.Form.the-variants.{ElseMarker, EndMarker}
 use Rattle.book.specs.Layout.{routinesOf, stepsOf, firstStep, stepCount}
 use Rattle.kinds.specs.Steps.{stepBytes, stepAt}
 use Rattle.blocks.specs.Blocks.{View, stands, viewAt, deepest, partnerOf}
-use Rattle.book.specs.Book.{countsOf, stepsPart, routinePart, viewOf, shown}
+use Rattle.book.specs.Book.{countsOf, stepsPart, routineFrom, routinePart, routineSteps, viewOf, shown, shownFrom}
 use Rattle.blocks.specs.Parse.{ParsedBlock, WhilesPause}
 use Rattle.book.specs.Accepted.{Accepted}
 use Rattle.book.specs.Tells.{nothing}
@@ -49,9 +49,13 @@ module _ (s : List ℕ) (a : Accepted s) where
 
   -- r is one of its routines
   module _ (r : ℕ) (h : r < routinesOf s) where
-    pub shown-routine : shown s r ≡ take (stepBytes * stepCount s r) (routinePart s r)
+    pub shown-routine : shown s r ≡ routineSteps s r
     unfolding shown
     shown-routine = rw (told-only s (nothing a), lt-ltb r (routinesOf s) h)
+
+    pub shown-from : shownFrom s r ≡ routineFrom s r
+    unfolding shownFrom
+    shown-from = rw (told-only s (nothing a), lt-ltb r (routinesOf s) h)
 
     pub shown-size : length (shown s r) ≡ stepBytes * stepCount s r
     shown-size =

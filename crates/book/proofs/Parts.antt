@@ -11,7 +11,7 @@ use lib.Seq.{getD-take, getD-drop, drop-drop, length-take-le, take-all}
 use Rattle.kinds.specs.declared.Counts.{Counts}
 use Rattle.book.specs.Layout.{stepsOf, stepsFrom, firstStep, stepCount}
 use Rattle.kinds.specs.Steps.{stepBytes, decoded, opAt, fieldA, fieldB, fieldN, stepAt}
-use Rattle.book.specs.Book.{stepsPart, routinePart}
+use Rattle.book.specs.Book.{stepsPart, routinePart, routineSteps}
 use Rattle.kinds.proofs.Readable.{step-there, step-missing}
 
 -- the rest of a list from a place on, however that place is told
@@ -95,5 +95,5 @@ module _ (s : List ℕ) (r : ℕ) where
     routine-length = rw length-drop (omega arith)
 
     -- the part that showing the routine gives
-    pub shown-length : length (take (stepBytes * stepCount s r) (routinePart s r)) ≡ stepBytes * stepCount s r
+    pub shown-length : length (routineSteps s r) ≡ stepBytes * stepCount s r
     shown-length = length-take-le (stepBytes * stepCount s r) (routinePart s r) routine-length

@@ -33,9 +33,17 @@ stepsPart s = drop (stepsFrom s) s
 unfoldable pub stepsVerdict : List ℕ → Verdict
 stepsVerdict s = firstRefusal (λ i. stepVerdict (stepAt (countsOf s) (stepsPart s) i) i) (stepsOf s) 0
 
+-- the byte of the book where the steps of routine r begin
+abbrev pub routineFrom : List ℕ → ℕ → ℕ
+routineFrom s r = stepsFrom s + stepBytes * firstStep s r
+
 -- "the part of the book that begins at its first step"
 unfoldable pub routinePart : List ℕ → ℕ → List ℕ
-routinePart s r = drop (stepsFrom s + stepBytes * firstStep s r) s
+routinePart s r = drop (routineFrom s r) s
+
+-- the steps of routine r
+abbrev pub routineSteps : List ℕ → ℕ → List ℕ
+routineSteps s r = take (stepBytes * stepCount s r) (routinePart s r)
 
 -- what stands at a place of routine r
 abbrev pub viewOf : List ℕ → ℕ → ℕ → View
@@ -68,7 +76,7 @@ nestingVerdict s = firstRefusal (nestingAt s) (routinesOf s) 0
 unfoldable pub pausingVerdict : List ℕ → Verdict
 pausingVerdict s = firstRefusal (pausingAt s) (routinesOf s) 0
 
--- "Reading a book .. check[s] 1 to 7", each over the whole book before the next
+-- "Reading a book and set-up check 1 to 7", each over the whole book before the next
 unfoldable pub bookVerdict : List ℕ → Verdict
 bookVerdict s = layoutVerdict s orElse directoryVerdict s orElse stepsVerdict s orElse nestingVerdict s orElse pausingVerdict s
 
@@ -78,8 +86,8 @@ abbrev pub isShown : List ℕ → ℕ → Bool
 isShown s r = eqb (bookVerdict s .number) 0 && ltb r (routinesOf s)
 
 unfoldable pub shown : List ℕ → ℕ → List ℕ
-shown s r = if isShown s r then take (stepBytes * stepCount s r) (routinePart s r) else []
+shown s r = if isShown s r then routineSteps s r else []
 
 -- the byte of the book where that part begins
 unfoldable pub shownFrom : List ℕ → ℕ → ℕ
-shownFrom s r = if isShown s r then stepsFrom s + stepBytes * firstStep s r else 0
+shownFrom s r = if isShown s r then routineFrom s r else 0

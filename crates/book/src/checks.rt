@@ -3,10 +3,9 @@ use crate::Answer;
 use crate::WRONG_NESTING;
 use crate::WRONG_STEP;
 use crate::first_answer;
-use crate::layout::counters;
+use crate::layout::counts_of;
 use crate::layout::first_step;
 use crate::layout::routines;
-use crate::layout::signals;
 use crate::layout::step_count;
 use crate::layout::steps;
 use crate::layout::steps_from;
@@ -14,7 +13,6 @@ use crate::verdict_of;
 use blocks::Fault;
 use blocks::Walk;
 use blocks::read_routine;
-use kinds::Counts;
 use kinds::STEP_BYTES;
 use kinds::Step;
 use kinds::step_at;
@@ -23,17 +21,7 @@ ghost use Prim.Native.Nat.{_+_, _<_};
 ghost use Rattle.numbers.specs.Numbers.{halfLimit};
 ghost use Rattle.book.specs.Verdicts.{accepted, verdictOf, _orElse_};
 ghost use Rattle.book.specs.Layout.{routinesOf, layoutVerdict, directoryVerdict};
-ghost use Rattle.book.specs.Book.{countsOf, stepsVerdict, nestingVerdict, pausingVerdict, nestingAt, pausingAt};
-
-fn counts_of(book: &[u8]) -> Counts
-    ensures { λ r. ⌜ r ≡ countsOf (now (book .entry)) ⌝ }
-{
-    Counts {
-        routines: routines(book),
-        signals: signals(book),
-        counters: counters(book),
-    }
-}
+ghost use Rattle.book.specs.Book.{stepsVerdict, nestingVerdict, pausingVerdict, nestingAt, pausingAt};
 
 // Refusal 5, over the whole book.
 pub fn check_steps(book: &[u8]) -> Answer

@@ -1,5 +1,6 @@
 // The header and the directory of a book: refusals 1 to 4.
 use crate::Answer;
+use kinds::Counts;
 use kinds::STEP_BYTES;
 use numbers::half_at;
 ghost use mathlib.Core.Path.{_≡_};
@@ -8,14 +9,15 @@ ghost use Rattle.numbers.specs.Numbers.{halfLimit};
 ghost use Rattle.book.specs.Verdicts.{verdictOf};
 ghost use Rattle.book.specs.Layout.{headerBytes, entryBytes, routinesOf, stepsOf, signalsOf, countersOf, countsFit};
 ghost use Rattle.book.specs.Layout.{layoutFits, stepsFrom, firstStep, stepCount, layoutVerdict, directoryVerdict};
+ghost use Rattle.book.specs.Book.{countsOf};
 
-const MOST_ROUTINES: usize = 64;
+pub const MOST_ROUTINES: usize = 64;
 
-const MOST_STEPS: usize = 1024;
+pub const MOST_STEPS: usize = 1024;
 
-const MOST_SIGNALS: usize = 64;
+pub const MOST_SIGNALS: usize = 64;
 
-const MOST_COUNTERS: usize = 64;
+pub const MOST_COUNTERS: usize = 64;
 
 // The bytes of the header and of an entry of the directory.
 const HEADER_BYTES: usize = 12;
@@ -44,6 +46,17 @@ pub fn counters(book: &[u8]) -> usize
     ensures { λ r. ⌜ (r ≡ countersOf (now (book .entry))) × (r < halfLimit) ⌝ }
 {
     half_at(book, 6)
+}
+
+// The numbers R, E and C.
+pub fn counts_of(book: &[u8]) -> Counts
+    ensures { λ r. ⌜ r ≡ countsOf (now (book .entry)) ⌝ }
+{
+    Counts {
+        routines: routines(book),
+        signals: signals(book),
+        counters: counters(book),
+    }
 }
 
 fn counts_fit(book: &[u8]) -> bool
@@ -109,19 +122,23 @@ pub fn check_layout(book: &[u8]) -> Answer
     }
 }
 
-// The first step of a routine, by the directory.
+// The first step of a routine, by the directory; 0 where the bytes are not there.
 pub fn first_step(book: &[u8], routine: usize) -> usize
-    requires { ⌜ routine < halfLimit ⌝ }
     ensures { λ r. ⌜ (r ≡ firstStep (now (book .entry)) routine) × (r < halfLimit) ⌝ }
 {
+    if book.len() / ENTRY_BYTES <= routine {
+        return 0;
+    }
     half_at(book, HEADER_BYTES + ENTRY_BYTES * routine)
 }
 
-// How many steps a routine has, by the directory.
+// How many steps a routine has, by the directory; 0 where the bytes are not there.
 pub fn step_count(book: &[u8], routine: usize) -> usize
-    requires { ⌜ routine < halfLimit ⌝ }
     ensures { λ r. ⌜ (r ≡ stepCount (now (book .entry)) routine) × (r < halfLimit) ⌝ }
 {
+    if book.len() / ENTRY_BYTES <= routine {
+        return 0;
+    }
     half_at(book, HEADER_BYTES + 2 + ENTRY_BYTES * routine)
 }
 

@@ -14,10 +14,9 @@ use Rattle.blocks.specs.declared.Fault.the-variants.{Unreadable, Misnested}
 use Rattle.blocks.specs.declared.Walk.{Walk}
 use Rattle.blocks.specs.declared.Walk.the-variants as walk
 use Rattle.book.specs.Verdicts.{accepted, refused, _orElse_}
-use Rattle.kinds.specs.Steps.{stepBytes}
 use Rattle.book.specs.Layout.{routinesOf, stepsFrom, firstStep, stepCount, layoutVerdict, directoryVerdict}
 use Rattle.blocks.specs.Blocks.{viewAt, routineOf}
-use Rattle.book.specs.Book.{countsOf, routinePart, routineWalk, nestingAt, pausingAt}
+use Rattle.book.specs.Book.{countsOf, routineFrom, routinePart, routineWalk, nestingAt, pausingAt}
 use Rattle.book.proofs.Decided.{directed}
 use Rattle.book.proofs.Directory.{routine-start}
 use Rattle.blocks.proofs.Faults.{misnested, unreadable-at}
@@ -77,20 +76,10 @@ unfolding routinePart
 read-in-book c =
     let from = c .before .before in
     let first = from .before .before in
-    let same : from .steps-from .result + 8 * first .first-step .result ≡
-    stepsFrom (first .before .before .before .args .book .now) +
-    stepBytes * firstStep (first .before .before .before .args .book .now) (first .before .before .before .args .routine) =
+    let args = first .before .before .before .args in
+    let same : from .steps-from .result + 8 * first .first-step .result ≡ routineFrom (args .book .now) (args .routine) =
     rw (from .steps-from .ensures .0, first .first-step .ensures .0) in
     in-book _ _ (first .before .counts-of .ensures) (rest-from _ same) (from .before .step-count .ensures .0) (c .read-routine .ensures)
-
-few-routines : (s : List ℕ) {r : ℕ} → layoutVerdict s ≡ accepted → r < routinesOf s → r < 65536
-few-routines s l h = let laid = laid-out s (ap (λ v. v .number) l) in omega (arith, laid .counts .fewRoutines)
-
-first-step-requires : tie.Need-first-step-requires
-first-step-requires c κs = few-routines _ (c .before .before .pre .0) (c .before .before .pre .1 .1)
-
-step-count-requires : tie.Need-step-count-requires
-step-count-requires c κs = few-routines _ (c .before .before .before .pre .0) (c .before .before .before .pre .1 .1)
 
 sub-read-routine : tie.Need-sub-read-routine
 sub-read-routine c =
@@ -157,8 +146,8 @@ check-routine-spec =
     tie.close
     (tie.spec
     (λ c κs. search needs)
-    first-step-requires
-    step-count-requires
+    (λ c κs. search needs)
+    (λ c κs. search needs)
     (λ c κs. search needs)
     (λ c. search needs)
     (λ c. search needs)

@@ -1,7 +1,7 @@
--- `book::checks::counts_of` meets its contract: each field is the count that its reader ensures.
+-- `book::layout::counts_of` meets its contract: each field is the count that its reader ensures.
 use borrow.Author.Needs.{needs}
-use Rattle.book.proofs.checks.counts_of.Statement.{statement}
-use Rattle.book.proofs.checks.counts_of.Tie as tie
+use Rattle.book.proofs.layout.counts_of.Statement.{statement}
+use Rattle.book.proofs.layout.counts_of.Tie as tie
 
 returns : tie.Need-returns
 returns c =

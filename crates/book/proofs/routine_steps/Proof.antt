@@ -1,0 +1,85 @@
+-- `book::routine_steps` meets its contract: a routine that begins past the book's end has no steps there, one that ends past it has
+-- the rest of the book, and any other lies whole in the book.
+use Prim.Native.Nat.{ℕ, _+_, _-_, _*_, _<_}
+use mathlib.Core.Path.{_≡_, refl, sym, _∙_}
+use mathlib.Core.List.{List, []}
+use native.Mathlib.Omega.{arith}
+use lib.ListN.{length, take, drop, length-drop, drop-of-length-le}
+use lib.Seq.{take-all, take-nil}
+use borrow.Author.Needs.{needs}
+use Rattle.kinds.specs.Steps.{stepBytes}
+use Rattle.book.specs.Layout.{stepCount}
+use Rattle.book.specs.Book.{routineFrom, routinePart, routineSteps}
+use Rattle.book.proofs.Parts.{rest-from}
+use Rattle.book.proofs.routine_steps.Statement.{statement}
+use Rattle.book.proofs.routine_steps.Tie as tie
+
+-- where the routine begins, and the bytes of its steps, as the code has them
+module _ (s : List ℕ) (r : ℕ) {from size : ℕ} (begins : from ≡ routineFrom s r) (bytes : size ≡ stepBytes * stepCount s r) where
+  missing : length s < from → [] ≡ routineSteps s r
+  unfolding routinePart
+  missing h = rw (← begins, drop-of-length-le s {i = from} (omega arith), take-nil)
+
+  rest : length s < from + size → take (length s - from) (drop from s) ≡ routineSteps s r
+  unfolding routinePart
+  rest h = rest-from s begins ∙ rw (← begins, ← bytes) (sym (take-all size (drop from s) (omega (arith, length-drop from s))))
+
+  whole : take (from + size - from) (drop from s) ≡ routineSteps s r
+  unfolding routinePart
+  whole = let same : from + size - from ≡ size = omega arith in rw (same, begins, bytes)
+
+starts :
+    (c : tie.After-step-count) →
+    let args = c .before .before .before .before .args in
+    c .before .before .steps-from .result + 8 * c .before .first-step .result ≡ routineFrom (args .book .now) (args .routine)
+starts c = rw (c .before .before .steps-from .ensures .0, c .before .first-step .ensures .0)
+
+sized :
+    (c : tie.After-step-count) →
+    let args = c .before .before .before .before .args in
+    8 * c .step-count .result ≡ stepBytes * stepCount (args .book .now) (args .routine)
+sized c = rw (c .step-count .ensures .0)
+
+returns : tie.Need-returns
+returns c =
+    let at = c .before .before in
+    let args = at .before .before .before .before .args in
+    let from = starts at in
+    (missing (args .book .now) (args .routine) from (sized at) (c .before .if1 .taken), λ h. absurd (omega (arith, from, h)))
+
+returns-2 : tie.Need-returns-2
+returns-2 c =
+    let at = c .before .before .before in
+    let args = at .before .before .before .before .args in
+    let from = starts at in
+    (rest (args .book .now) (args .routine) from (sized at) (c .before .if2 .taken), λ h. (refl, omega arith))
+
+returns-3 : tie.Need-returns-3
+returns-3 c =
+    let at = c .before .before .before in
+    let from = starts at in
+    (whole _ _ from (sized at), λ h. (refl, omega arith))
+
+pub routine-steps-spec : {M : Type 1} → statement M
+routine-steps-spec =
+    tie.close
+    (tie.spec
+    (λ c κs. search needs)
+    (λ c κs. search needs)
+    (λ c. search needs)
+    (λ c. search needs)
+    (λ c κs. search needs)
+    (λ c. search needs)
+    (λ c. search needs)
+    (λ c. search needs)
+    (λ c. search needs)
+    (λ c. search needs)
+    returns
+    (λ c. search needs)
+    (λ c. search needs)
+    (λ c. search needs)
+    returns-2
+    (λ c. search needs)
+    (λ c. search needs)
+    (λ c. search needs)
+    returns-3)
