@@ -4,6 +4,7 @@ use numbers::LOWEST;
 ghost use mathlib.Core.Path.{_≡_};
 ghost use Rattle.kinds.specs.Forms.{formOf};
 ghost use Rattle.kinds.specs.Steps.{rowOf, decoded, stepAt};
+ghost use Rattle.kinds.specs.Timed.{timedCount};
 
 // The 21 kinds. Indexes, relations and counts are ready to use: a count of 0 or less is 0.
 pub enum Kind {
@@ -159,5 +160,20 @@ pub fn form_of(kind: Kind) -> Form
         Kind::Else => Form::ElseMarker,
         Kind::While(_, _, _) => Form::WhileOpening,
         Kind::End => Form::EndMarker,
+    }
+}
+
+// The n of a timed step; 0 for any other.
+pub fn timed_count(step: Step) -> usize
+    ensures { λ r. ⌜ r ≡ timedCount step ⌝ }
+{
+    let Step::Kind(kind) = step else {
+        return 0;
+    };
+    match kind {
+        Kind::RestFor(n) => n,
+        Kind::WaitFor(_, n) => n,
+        Kind::JoinFor(_, n) => n,
+        _ => 0,
     }
 }

@@ -37,6 +37,13 @@ lowest = negsuc 999999
 abbrev pub highest : ℤ
 highest = pos 1000000
 
+-- "A counter starts at 0 and holds −1,000,000 to 1,000,000."
+abbrev pub lowestCounter : ℤ
+lowestCounter = negsuc 999999
+
+abbrev pub highestCounter : ℤ
+highestCounter = pos 1000000
+
 abbrev pub isWithin : ℤ → ℤ → ℤ → Bool
 isWithin n low high = leZ low n && leZ n high
 

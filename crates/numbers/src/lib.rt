@@ -8,6 +8,11 @@ pub const LOWEST: i32 = -1000000;
 
 pub const HIGHEST: i32 = 1000000;
 
+// The ends of a counter.
+pub const LOWEST_COUNTER: i32 = -1000000;
+
+pub const HIGHEST_COUNTER: i32 = 1000000;
+
 // A number of 16 bits, from its low and its high byte.
 pub fn half(low: u8, high: u8) -> usize
     ensures { λ r. ⌜ (r ≡ halfOf low high) × (r < halfLimit) ⌝ }
