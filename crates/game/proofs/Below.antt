@@ -1,0 +1,78 @@
+-- A test at each, or at one, of the first n numbers: what the answer says of each number, and one turn of a loop over them.
+-- By induction on n: the last of the first n + 1 numbers is n itself.
+use Prim.Native.Nat.{ℕ, zero, suc, _+_, _<_, _≤_}
+use mathlib.Core.Path.{_≡_, refl, sym}
+use mathlib.Core.Bool.{Bool, true, false, _&&_, true≢false, Bool-discrete, and-false, or-true, or-false}
+use native.Mathlib.Omega.{arith}
+use native.Mathlib.Decide.{ℕ-discrete}
+use native.Mathlib.Numerals.{add-one}
+use Rattle.game.specs.Below.{allBelow, anyBelow}
+
+pub and-true : (a b : Bool) → (a && b) ≡ true → (a ≡ true) × (b ≡ true)
+and-true true b h = (refl, h)
+and-true false b h = absurd (true≢false (sym h))
+
+pub not-true-false : (b : Bool) → (b ≡ true → ⊥) → b ≡ false
+not-true-false true n = absurd (n refl)
+not-true-false false n = refl
+
+pub both-true : {a b : Bool} → a ≡ true → b ≡ true → (a && b) ≡ true
+both-true h k = rw (h, k)
+
+module _ (test : ℕ → Bool) where
+  pub all-holds : (n : ℕ) → allBelow n test ≡ true → (i : ℕ) → i < n → test i ≡ true
+  unfolding allBelow
+  all-holds zero h i l = absurd (omega arith)
+  all-holds (suc n) h i l =
+      let both = and-true (allBelow n test) (test n) h in
+      elim (ℕ-discrete i n) [ yes e ↦ rw e (both .1) | no ne ↦ all-holds n (both .0) i (omega arith) ]
+
+  pub all-true : (n : ℕ) → ((i : ℕ) → i < n → test i ≡ true) → allBelow n test ≡ true
+  unfolding allBelow
+  all-true zero h = refl
+  all-true (suc n) h = both-true (all-true n (λ i l. h i (omega arith))) (h n (omega arith))
+
+  pub all-fails : (n i : ℕ) → i < n → test i ≡ false → allBelow n test ≡ false
+  unfolding allBelow
+  all-fails zero i l h = absurd (omega arith)
+  all-fails (suc n) i l h =
+      elim (ℕ-discrete i n) [ yes e ↦ rw (← e, h, and-false) | no ne ↦ rw (all-fails n i (omega arith) h) ]
+
+  -- the loop goes on behind number i
+  pub all-next : (i : ℕ) → allBelow i test ≡ true → test i ≡ true → allBelow (i + 1) test ≡ true
+  unfolding allBelow
+  all-next i h t = rw (add-one, h, t)
+
+  -- the loop ends
+  pub all-ends : {n i : ℕ} → allBelow i test ≡ true → i ≤ n → n ≤ i → allBelow n test ≡ true
+  all-ends {n} {i} h l m = let e : n ≡ i = omega arith in rw e h
+
+  pub any-holds : (n i : ℕ) → i < n → test i ≡ true → anyBelow n test ≡ true
+  unfolding anyBelow
+  any-holds zero i l h = absurd (omega arith)
+  any-holds (suc n) i l h =
+      elim (ℕ-discrete i n) [ yes e ↦ rw (← e, h, or-true) | no ne ↦ rw (any-holds n i (omega arith) h) ]
+
+  pub any-none : (n : ℕ) → ((i : ℕ) → i < n → test i ≡ false) → anyBelow n test ≡ false
+  unfolding anyBelow
+  any-none zero h = refl
+  any-none (suc n) h = rw (any-none n (λ i l. h i (omega arith)), h n (omega arith))
+
+  pub any-next : (i : ℕ) → anyBelow i test ≡ false → test i ≡ false → anyBelow (i + 1) test ≡ false
+  unfolding anyBelow
+  any-next i h t = rw (add-one, h, t)
+
+  pub any-ends : {n i : ℕ} → anyBelow i test ≡ false → i ≤ n → n ≤ i → anyBelow n test ≡ false
+  any-ends {n} {i} h l m = let e : n ≡ i = omega arith in rw e h
+
+  pub any-found : (n : ℕ) → anyBelow n test ≡ true → (i : ℕ) × (i < n) × (test i ≡ true)
+  unfolding anyBelow
+  any-found zero h = absurd (true≢false (sym h))
+  any-found (suc n) h =
+      elim (Bool-discrete (test n) true) [
+        | yes e ↦ (n, omega arith, e)
+        | no ne ↦
+            let none : test n ≡ false = not-true-false (test n) ne in
+            let before = any-found n (rw (none, or-false) at h) in
+            (before .0, omega arith, before .2)
+      ]

@@ -1,0 +1,6 @@
+pub mod Below
+pub mod Tests
+pub mod Lists
+pub mod Routines
+pub mod Decides
+pub mod Room

@@ -1,0 +1,5 @@
+pub mod Below
+pub mod Lines
+pub mod Game
+pub mod Fits
+pub mod Fitting

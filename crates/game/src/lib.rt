@@ -1,0 +1,118 @@
+// Games: what is kept between rounds, and which games fit a book. Document 01, "The game".
+pub mod fitting;
+pub mod lines;
+
+use book::layout::MOST_COUNTERS;
+use book::layout::MOST_ROUTINES;
+use book::layout::MOST_SIGNALS;
+use kinds::Counts;
+ghost use mathlib.Core.Path.{_≡_};
+ghost use Rattle.game.specs.Game.{blank, blankGame, withStop, withSuspend, withResume};
+
+// How many entries a list has room for.
+pub const MOST_ENTRIES: usize = 64;
+
+// The stages of a routine.
+pub const NOT_STARTED: u8 = 0;
+
+pub const CONTINUING: u8 = 1;
+
+pub const RESTED: u8 = 2;
+
+pub const ENDED: u8 = 3;
+
+pub const STOPPED: u8 = 4;
+
+// What is kept of a routine (the paper's thread). The last three flags say whether it is in the sets to stop, suspend and resume.
+pub struct Routine {
+    pub stage: u8,
+    pub place: u16,
+    pub left: u32,
+    pub suspended: bool,
+    pub begun: bool,
+    pub stopping: bool,
+    pub suspending: bool,
+    pub resuming: bool,
+}
+
+// A list of routines: its first `len` entries.
+pub struct Line {
+    pub items: [u8; MOST_ENTRIES],
+    pub len: usize,
+}
+
+// A game: the numbers R, E and C, the routines, the counters, the playing order (the paper's actual), those to start (to_start), and the
+// signals to broadcast (to_broadcast). In a game that fits its book nothing is kept beyond R, E and C or behind a list's length.
+pub struct Game {
+    pub counts: Counts,
+    pub routines: [Routine; MOST_ROUTINES],
+    pub counters: [i32; MOST_COUNTERS],
+    pub listed: Line,
+    pub starting: Line,
+    pub broadcast: [bool; MOST_SIGNALS],
+}
+
+// A routine whose fields are all 0.
+pub fn blank_routine() -> Routine
+    ensures { λ r. ⌜ r ≡ blank ⌝ }
+{
+    Routine {
+        stage: NOT_STARTED,
+        place: 0,
+        left: 0,
+        suspended: false,
+        begun: false,
+        stopping: false,
+        suspending: false,
+        resuming: false,
+    }
+}
+
+// A game whose fields are all 0, to be lent to set-up.
+pub fn blank_game() -> Game
+    ensures { λ r. ⌜ r ≡ blankGame ⌝ }
+{
+    let counts = Counts {
+        routines: 0,
+        signals: 0,
+        counters: 0,
+    };
+    let blank = blank_routine();
+    let items = [0; MOST_ENTRIES];
+    let line = Line { items, len: 0 };
+    Game {
+        counts,
+        routines: [blank; MOST_ROUTINES],
+        counters: [0; MOST_COUNTERS],
+        listed: line,
+        starting: line,
+        broadcast: [false; MOST_SIGNALS],
+    }
+}
+
+// A routine joins the set to stop.
+pub fn with_stop(routine: Routine) -> Routine
+    ensures { λ r. ⌜ r ≡ withStop routine ⌝ }
+{
+    let mut next = routine;
+    next.stopping = true;
+    next
+}
+
+// A routine joins the set to suspend.
+pub fn with_suspend(routine: Routine) -> Routine
+    ensures { λ r. ⌜ r ≡ withSuspend routine ⌝ }
+{
+    let mut next = routine;
+    next.suspending = true;
+    next
+}
+
+// A routine joins the set to resume.
+pub fn with_resume(routine: Routine) -> Routine
+    ensures { λ r. ⌜ r ≡ withResume routine ⌝ }
+{
+    let mut next = routine;
+    next.resuming = true;
+    next
+}

@@ -1,0 +1,62 @@
+// Lists of routines.
+use crate::Line;
+use crate::MOST_ENTRIES;
+use crate::NOT_STARTED;
+ghost use mathlib.Core.Path.{_≡_};
+ghost use Prim.Native.Nat.{_≤_};
+ghost use Rattle.game.specs.Lines.{mostEntries, usedOf, isIn, pushed};
+ghost use Rattle.game.specs.Game.{withStart};
+
+// How many entries of a list count: as many as its length says, and no more than there are.
+pub fn used(line: Line) -> usize
+    ensures { λ r. ⌜ (r ≡ usedOf line) × (r ≤ mostEntries) ⌝ }
+{
+    let len = line.len;
+    if len < MOST_ENTRIES {
+        len
+    } else {
+        MOST_ENTRIES
+    }
+}
+
+// Whether a routine is in a list.
+pub fn is_in(line: Line, routine: u8) -> bool
+    ensures { λ r. ⌜ r ≡ isIn line routine ⌝ }
+{
+    let all = used(line);
+    let mut at: usize = 0;
+    while at < all {
+        if line.items[at] == routine {
+            return true;
+        }
+        at += 1;
+    }
+    false
+}
+
+// A routine is put at a list's end; a full list takes no more.
+pub fn push(line: Line, routine: u8) -> Line
+    ensures { λ r. ⌜ r ≡ pushed line routine ⌝ }
+{
+    let at = line.len;
+    if at < MOST_ENTRIES {
+        let mut next = line;
+        next.items[at] = routine;
+        next.len = at + 1;
+        return next;
+    }
+    line
+}
+
+// Those to start, after a start of a routine, which is in this stage: one that is not in stage 0, or is already to start, adds nothing.
+pub fn with_start(line: Line, routine: u8, stage: u8) -> Line
+    ensures { λ r. ⌜ r ≡ withStart line routine stage ⌝ }
+{
+    if stage != NOT_STARTED {
+        return line;
+    }
+    if is_in(line, routine) {
+        return line;
+    }
+    push(line, routine)
+}
