@@ -1,0 +1,76 @@
+-- After an order that is accepted the game fits the book, and the same order again answers the same and leaves the same game.
+-- The reason of what is told says that the game before it fits, and the game after it is the one that obeys.
+use Prim.Native.Nat.{ℕ, _<_}
+use mathlib.Core.Path.{_≡_, sym, _∙_, ap}
+use mathlib.Core.List.{List}
+use native.Mathlib.Omega.{arith}
+use native.Mathlib.Decide.{ℕ-discrete}
+use borrow.Author.Tests.{eq-eqb}
+use Rattle.book.specs.declared.Verdict.{Verdict}
+use Rattle.book.specs.Verdicts.{accepted}
+use Rattle.book.specs.Book.{countsOf}
+use Rattle.book.specs.Accepted.{Accepted}
+use Rattle.game.specs.declared.Game.{Game}
+use Rattle.game.specs.Game.{Sized}
+use Rattle.game.specs.Fitting.{fitsBook}
+use Rattle.game.specs.Fits.{Fits}
+use Rattle.game.proofs.Decides.{fits-decides}
+use Rattle.orders.specs.declared.Outcome.{Outcome}
+use Rattle.orders.specs.Orders.{orderCount, orderVerdict, obeyed, ordered}
+use Rattle.orders.specs.Tells.{OrderTells}
+use Rattle.orders.proofs.Games.{game-lent, game-either}
+use Rattle.orders.proofs.Obeyed.{obeyed-fits, obeyed-sized, obeyed-again}
+use Rattle.orders.proofs.Telling.{order-told-only, order-tells}
+
+-- the answer of an order that is accepted
+abbrev given : Game → Outcome
+given g = record { verdict = accepted; game = g }
+
+-- what an accepted order is accepted for
+abbrev pub Right : List ℕ → Game → ℕ → ℕ → Type 0
+Right s g kind n = Accepted s × Fits s g × (n < orderCount (countsOf s) kind)
+
+pub told-right : {s : List ℕ} {g : Game} {kind n : ℕ} {v : Verdict} → OrderTells s g kind n v → v .number ≡ 0 → Right s g kind n
+told-right (OrderTells.book t) e = absurd (omega arith)
+told-right (OrderTells.unfit a m) e = absurd (omega arith)
+told-right (OrderTells.unknown a f h) e = absurd (omega arith)
+told-right (OrderTells.nothing a f h) e = (a, f, h)
+
+right-given : (s : List ℕ) (g : Game) (kind n : ℕ) → Right s g kind n → ordered s g kind n ≡ given (obeyed g kind n)
+unfolding ordered
+right-given s g kind n (a, f, h) = rw (order-told-only (OrderTells.nothing a f h))
+
+module _ (s : List ℕ) (g : Game) (kind n : ℕ) (z : Sized g) where
+  pub order-sized : Sized (ordered s g kind n .game)
+  unfolding ordered
+  order-sized = game-either (orderVerdict s g kind n) (obeyed g kind n) g Sized (obeyed-sized g z kind n) z
+
+  pub order-fits : ordered s g kind n .verdict ≡ accepted → Fits s (ordered s g kind n .game)
+  unfolding ordered
+  order-fits e =
+      let (a, f, h) = told-right (order-tells s g kind n) (ap (λ v. v .number) e) in
+      rw e (obeyed-fits s g f kind n z h)
+
+  -- whether the game fits is as it was, after a refusal too
+  pub order-keeps : fitsBook s (ordered s g kind n .game) ≡ fitsBook s g
+  unfolding ordered
+  order-keeps =
+      elim (ℕ-discrete (orderVerdict s g kind n .number) 0) [
+        | yes e ↦
+            let (a, f, h) = told-right (order-tells s g kind n) e in
+            let fitting = fits-decides s (a .laid .counts) in
+            rw (eq-eqb _ _ e) (fitting (obeyed g kind n) .1 (obeyed-fits s g f kind n z h) ∙ sym (fitting g .1 f))
+        | no m ↦ ap (fitsBook s) (game-lent (orderVerdict s g kind n) (obeyed g kind n) g m)
+      ]
+
+  pub order-twice : ordered s (ordered s g kind n .game) kind n ≡ ordered s g kind n
+  unfolding ordered
+  order-twice =
+      elim (ℕ-discrete (orderVerdict s g kind n .number) 0) [
+        | yes e ↦
+            let (a, f, h) = told-right (order-tells s g kind n) e in
+            let first = right-given s g kind n (a, f, h) in
+            let second = right-given s (obeyed g kind n) kind n (a, obeyed-fits s g f kind n z h, h) in
+            ap (λ o. ordered s (o .game) kind n) first ∙ second ∙ ap given (obeyed-again g z kind n) ∙ sym first
+        | no m ↦ ap (λ x. ordered s x kind n) (game-lent (orderVerdict s g kind n) (obeyed g kind n) g m)
+      ]

@@ -1,0 +1,10 @@
+pub mod After
+pub mod Apart
+pub mod Changed
+pub mod Counts
+pub mod Games
+pub mod Joins
+pub mod Obeyed
+pub mod SetUp
+pub mod Starts
+pub mod Telling

@@ -1,0 +1,92 @@
+-- The game after an order that is obeyed fits the book if the one before it did, its arrays are as long as they were,
+-- and obeying the order again changes nothing. By kind; a routine that is replaced differs in its flags only.
+use Prim.Native.Nat.{ℕ, zero, suc, _<_}
+use mathlib.Core.Path.{_≡_, refl, sym, _∙_, ap}
+use mathlib.Core.Bool.{Bool, true, false}
+use mathlib.Core.List.{List}
+use native.Mathlib.Omega.{arith}
+use native.Mathlib.Decide.{decLt}
+use lib.ListN.{length, getD, set, length-set, List·getD-map}
+use lib.Seq.{getD-set-same, getD-set-other, set-out, set-set, map-set-same}
+use Rattle.book.specs.Layout.{routinesOf}
+use Rattle.book.specs.Book.{countsOf}
+use Rattle.game.specs.declared.Routine.{Routine}
+use Rattle.game.specs.declared.Game.{Game}
+use Rattle.game.specs.Game.{blank, routineAt, withFlags, withStop, withSuspend, withResume, Sized}
+use Rattle.game.specs.Game.{withRoutines, withRoutine, withStarting, withBroadcast}
+use Rattle.game.specs.Fits.{Fits}
+use Rattle.orders.specs.Orders.{orderCount, obeyed}
+use Rattle.orders.proofs.Changed.{same-flags, same-starts, changed-fits, changed-sized}
+use Rattle.orders.proofs.Starts.{starts-start, start-sized, start-again}
+
+module _ {A : Type 0} (l : List A) (n : ℕ) (d : A) where
+  -- what is said of the entries stays, if it is said of the one put in place n too
+  set-kept : {B : Type 0} (f : A → B) (y : A) → f y ≡ f (getD l n d) → (r : ℕ) → f (getD (set l n y) r d) ≡ f (getD l r d)
+  set-kept f y e r = sym (List·getD-map f (set l n y) r d) ∙ ap (λ m. getD m r (f d)) (map-set-same f l n y d e) ∙ List·getD-map f l r d
+
+  -- a change of entry n that is the same twice as once
+  set-again :
+      (f : A → A) → ((a : A) → f (f a) ≡ f a) →
+      (let m = set l n (f (getD l n d)) in set m n (f (getD m n d)) ≡ m)
+  set-again f twice =
+      elim (decLt n (length l)) [
+        | yes h ↦ rw (set-set, getD-set-same l n (f (getD l n d)) d h, twice)
+        | no m ↦ rw (set-out l n _ (omega arith), set-out l n _ (omega arith))
+      ]
+
+module _ (s : List ℕ) (g : Game) (f : Fits s g) where
+  flags-fit :
+      (n : ℕ) (stop suspend resume : Bool) → n < routinesOf s →
+      Fits s (withRoutine g n (withFlags (routineAt g n) stop suspend resume))
+  flags-fit n stop suspend resume h =
+      let l = g .routines in
+      let y = withFlags (routineAt g n) stop suspend resume in
+      changed-fits f
+      (record {
+        beyond = λ r a b. getD-set-other l n r y blank (λ e. omega arith) ∙ f .routinesBeyond r a b;
+        stage = set-kept l n blank (λ x. x .stage) y refl;
+        place = set-kept l n blank (λ x. x .place) y refl;
+        left = set-kept l n blank (λ x. x .left) y refl;
+        begun = set-kept l n blank (λ x. x .begun) y refl;
+      })
+      (same-starts f) (f .signalsBeyond)
+
+  pub obeyed-fits : (kind n : ℕ) → Sized g → n < orderCount (countsOf s) kind → Fits s (obeyed g kind n)
+  unfolding obeyed
+  obeyed-fits zero n z h =
+      changed-fits f (same-flags f) (same-starts f)
+      (λ e a b. getD-set-other (g .broadcast) n e true false (λ i. omega arith) ∙ f .signalsBeyond e a b)
+  obeyed-fits (suc zero) n z h =
+      changed-fits f (same-flags f) (starts-start (g .starting) n (z .starting) (same-starts f) h) (f .signalsBeyond)
+  obeyed-fits (suc (suc zero)) n z h = flags-fit n _ _ _ h
+  obeyed-fits (suc (suc (suc zero))) n z h = flags-fit n _ _ _ h
+  obeyed-fits (suc (suc (suc (suc zero)))) n z h = flags-fit n _ _ _ h
+  obeyed-fits (suc (suc (suc (suc (suc kind))))) n z h = f
+
+module _ (g : Game) (z : Sized g) where
+  routine-sized : (n : ℕ) (x : Routine) → Sized (withRoutine g n x)
+  routine-sized n x = changed-sized z (length-set (g .routines) n x ∙ z .routines) (z .starting) (z .broadcast)
+
+  pub obeyed-sized : (kind n : ℕ) → Sized (obeyed g kind n)
+  unfolding obeyed
+  obeyed-sized zero n = changed-sized z (z .routines) (z .starting) (length-set (g .broadcast) n true ∙ z .broadcast)
+  obeyed-sized (suc zero) n =
+      changed-sized z (z .routines) (start-sized (g .starting) n (routineAt g n .stage) (z .starting)) (z .broadcast)
+  obeyed-sized (suc (suc zero)) n = routine-sized n _
+  obeyed-sized (suc (suc (suc zero))) n = routine-sized n _
+  obeyed-sized (suc (suc (suc (suc zero)))) n = routine-sized n _
+  obeyed-sized (suc (suc (suc (suc (suc kind))))) n = z
+
+  routine-again :
+      (f : Routine → Routine) → ((x : Routine) → f (f x) ≡ f x) → (n : ℕ) →
+      (let h = withRoutine g n (f (routineAt g n)) in withRoutine h n (f (routineAt h n)) ≡ h)
+  routine-again f twice n = ap (withRoutines g) (set-again (g .routines) n blank f twice)
+
+  pub obeyed-again : (kind n : ℕ) → obeyed (obeyed g kind n) kind n ≡ obeyed g kind n
+  unfolding obeyed
+  obeyed-again zero n = ap (withBroadcast g) (set-set (g .broadcast) n true true)
+  obeyed-again (suc zero) n = ap (withStarting g) (start-again (g .starting) n (z .starting) (routineAt g n .stage))
+  obeyed-again (suc (suc zero)) n = routine-again withStop (λ x. refl) n
+  obeyed-again (suc (suc (suc zero))) n = routine-again withSuspend (λ x. refl) n
+  obeyed-again (suc (suc (suc (suc zero)))) n = routine-again withResume (λ x. refl) n
+  obeyed-again (suc (suc (suc (suc (suc kind))))) n = refl

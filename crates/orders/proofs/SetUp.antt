@@ -1,0 +1,88 @@
+-- A game that is set up fits its book, and its arrays are as long as their types say.
+-- Every routine, counter, signal and entry of a list is 0 in it, so each clause can be read off.
+use Prim.Native.Nat.{ℕ, zero, suc}
+use mathlib.Core.Path.{_≡_, refl, sym, _∙_, ap}
+use mathlib.Core.Bool.{false, true≢false}
+use mathlib.Core.List.{List}
+use mathlib.Core.Logic.{⊎-elim}
+use native.Mathlib.Omega.{arith}
+use lib.ListN.{getD, replicate, length-replicate}
+use lib.IntN.{pos}
+use lib.Signed.{leZ-yes}
+use Rattle.kinds.specs.declared.Counts.{Counts}
+use Rattle.book.specs.Verdicts.{accepted}
+use Rattle.book.specs.Layout.{mostRoutines, mostSignals, mostCounters}
+use Rattle.book.specs.Book.{countsOf, bookVerdict}
+use Rattle.book.specs.Accepted.{Accepted}
+use Rattle.book.proofs.Telling.{accepted-tells}
+use Rattle.game.specs.declared.Game.{Game}
+use Rattle.game.specs.Game.{notStarted, blank, routineAt, Sized}
+use Rattle.game.specs.Lines.{mostEntries, empty, itemAt, pushed}
+use Rattle.game.specs.Fits.{Fits}
+use Rattle.orders.specs.SetUp.{newGame, setUp}
+use Rattle.orders.proofs.Games.{game-either}
+
+-- each entry of a list that repeats one value is that value, past its end too
+all-same {ℓ} : {A : Type ℓ} (n i : ℕ) (a : A) → getD (replicate n a) i a ≡ a
+all-same zero i a = refl
+all-same (suc n) zero a = refl
+all-same (suc n) (suc i) a = all-same n i a
+
+item-new : (i : ℕ) → itemAt empty i ≡ 0
+item-new i = all-same mostEntries i 0
+
+-- routine 0 as the first entry leaves all entries 0
+item-first : (i : ℕ) → itemAt (pushed empty 0) i ≡ 0
+item-first i = all-same mostEntries i 0
+
+module _ (counts : Counts) where
+  pub new-game-sized : Sized (newGame counts)
+  unfolding newGame
+  new-game-sized =
+      let items = length-replicate {A = ℕ} mostEntries 0 in
+      record {
+        routines = length-replicate mostRoutines blank;
+        counters = length-replicate mostCounters (pos 0);
+        listed = items;
+        starting = items;
+        broadcast = length-replicate mostSignals false;
+      }
+
+  routine-new : (r : ℕ) → routineAt (newGame counts) r ≡ blank
+  unfolding newGame
+  routine-new r = all-same mostRoutines r blank
+
+  stage-new : (r : ℕ) → routineAt (newGame counts) r .stage ≡ notStarted
+  stage-new r = ap (λ x. x .stage) (routine-new r)
+
+pub new-game-fits : (s : List ℕ) → Accepted s → Fits s (newGame (countsOf s))
+unfolding newGame
+new-game-fits s a =
+    let routine = routine-new (countsOf s) in
+    let stage = stage-new (countsOf s) in
+    record {
+      numbers = refl;
+      routinesBeyond = λ r l m. routine r;
+      countersBeyond = λ c l m. all-same mostCounters c (pos 0);
+      signalsBeyond = λ e l m. all-same mostSignals e false;
+      entriesBeyond = (λ i l m. item-new i, λ i l m. item-first i);
+      stagesInRange = λ r l. omega (arith, stage r);
+      placesInRange = λ r l. omega (arith, ap (λ x. x .place) (routine r));
+      countersInRange = λ c l. rw (all-same mostCounters c (pos 0)) (leZ-yes tt, leZ-yes tt);
+      lengthsInRange = (omega arith, omega arith);
+      entriesInRange = (λ i l. absurd (omega arith), λ i l. omega (arith, item-first i));
+      listedStages = λ r l. ⊎-elim (λ e. absurd (omega (arith, stage r, e))) (λ e. absurd (omega (arith, stage r, e)));
+      unlistedStages = λ r l h inside. omega arith;
+      noneTwice = (λ i j l m e. omega arith, λ i j l m e. omega arith);
+      startStages = λ r inside. stage r;
+      leftWhereBegun = λ r l h. absurd (true≢false (sym h ∙ ap (λ x. x .begun) (routine r)));
+      leftElsewhere = λ r l h. ap (λ x. x .left) (routine r);
+    }
+
+pub set-up-sized : (s : List ℕ) (g : Game) → Sized g → Sized (setUp s g .game)
+unfolding setUp
+set-up-sized s g z = game-either (bookVerdict s) (newGame (countsOf s)) g Sized (new-game-sized (countsOf s)) z
+
+pub set-up-fits : (s : List ℕ) (g : Game) → setUp s g .verdict ≡ accepted → Fits s (setUp s g .game)
+unfolding setUp
+set-up-fits s g e = rw e (new-game-fits s (accepted-tells s .0 e))

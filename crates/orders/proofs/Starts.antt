@@ -1,0 +1,93 @@
+-- A routine that joins those to start: the list is as it was, or has the routine behind its last entry.
+-- Both fit, and a second start of the same routine adds nothing.
+use Prim.Native.Nat.{ℕ, _+_, _<_, _≤_}
+use mathlib.Core.Path.{_≡_, refl, sym, _∙_}
+use mathlib.Core.Bool.{true, false, _&&_, not, true≢false, and-false}
+use mathlib.Core.List.{List}
+use native.Mathlib.Omega.{arith}
+use native.Mathlib.Decide.{ℕ-discrete}
+use borrow.Author.Tests.{ltb-true, eqb-true, not-true}
+use lib.Dec.{ltb, eqb}
+use lib.ListN.{length, set, length-set}
+use lib.Seq.{getD-set-same, getD-set-other}
+use Rattle.book.specs.Layout.{routinesOf}
+use Rattle.game.specs.declared.Line.{Line}
+use Rattle.game.specs.declared.Game.{Game}
+use Rattle.game.specs.Lines.{mostEntries, itemAt, isIn}
+use Rattle.game.specs.Game.{notStarted, routineAt, withStart}
+use Rattle.game.proofs.Below.{and-true}
+use Rattle.game.proofs.Lists.{LineRight, is-in}
+use Rattle.orders.proofs.Games.{choice}
+use Rattle.orders.proofs.Changed.{Starts}
+
+-- routine r behind the last entry
+abbrev joined : Line → ℕ → Line
+joined l r = record { items = set (l .items) (l .len) r; len = l .len + 1 }
+
+module _ (l : Line) (r stage : ℕ) where
+  -- a claim on the list after a start: nothing was added, or a routine in stage 0 that was not in it
+  start-either :
+      (P : Line → Type 0) → (withStart l r stage ≡ l → P l) →
+      (l .len < mostEntries → stage ≡ notStarted → isIn l r ≡ false → P (joined l r)) → P (withStart l r stage)
+  unfolding withStart
+  start-either P same added =
+      choice (λ m. withStart l r stage ≡ m → P m) (eqb stage notStarted && not (isIn l r))
+      (λ new.
+      let both = and-true (eqb stage notStarted) (not (isIn l r)) new in
+      choice (λ m. withStart l r stage ≡ m → P m) (ltb (l .len) mostEntries)
+      (λ room e. added (ltb-true _ _ room) (eqb-true _ _ (both .0)) (not-true _ (both .1)))
+      (λ full. same))
+      (λ old. same)
+      refl
+
+  pub start-sized : length (l .items) ≡ mostEntries → length (withStart l r stage .items) ≡ mostEntries
+  start-sized z = start-either (λ m. length (m .items) ≡ mostEntries) (λ e. z) (λ room e new. length-set (l .items) (l .len) r ∙ z)
+
+module _ (l : Line) (r : ℕ) (z : length (l .items) ≡ mostEntries) where
+  module _ (room : l .len < mostEntries) where
+    joined-last : itemAt (joined l r) (l .len) ≡ r
+    joined-last = getD-set-same (l .items) (l .len) r 0 (omega arith)
+
+    joined-before : (i : ℕ) → (i ≡ l .len → ⊥) → itemAt (joined l r) i ≡ itemAt l i
+    joined-before i n = getD-set-other (l .items) (l .len) i r 0 n
+
+    -- a claim on each entry, the last one and the others
+    joined-each :
+        (P : ℕ → ℕ → Type 0) → P (l .len) r → ((i : ℕ) → (i ≡ l .len → ⊥) → P i (itemAt l i)) →
+        (i : ℕ) → P i (itemAt (joined l r) i)
+    joined-each P last others i =
+        elim (ℕ-discrete i (l .len)) [ yes e ↦ rw (e, joined-last) last | no n ↦ rw (joined-before i n) (others i n) ]
+
+    joined-in : isIn (joined l r) r ≡ true
+    joined-in = is-in (joined l r) (omega arith) r .1 (l .len, omega arith, joined-last)
+
+    joined-right : {routines : ℕ} → LineRight l routines → r < routines → isIn l r ≡ false → LineRight (joined l r) routines
+    joined-right {routines} t below new =
+        record {
+          short = omega arith;
+          entries = joined-each (λ i v. i < l .len + 1 → v < routines) (λ a. below) (λ i n a. t .entries i (omega arith));
+          beyond =
+              joined-each (λ i v. l .len + 1 ≤ i → i < mostEntries → v ≡ 0) (λ a b. absurd (omega arith))
+              (λ i n a. t .beyond i (omega arith));
+          once =
+              λ i.
+              joined-each (λ j v. i < j → j < l .len + 1 → itemAt (joined l r) i ≡ v → ⊥)
+              (λ a b e. true≢false (sym (is-in l (t .short) r .1 (i, a, sym (joined-before i (λ k. omega arith)) ∙ e)) ∙ new))
+              (λ j n a b e. t .once i j a (omega arith) (sym (joined-before i (λ k. omega arith)) ∙ e));
+        }
+
+  pub starts-start : {s : List ℕ} {g : Game} → Starts s g l → r < routinesOf s → Starts s g (withStart l r (routineAt g r .stage))
+  starts-start {s} {g} t below =
+      start-either l r (routineAt g r .stage) (Starts s g) (λ e. t) (λ room stage new.
+      record {
+        line = joined-right room (t .line) below new;
+        starting =
+            λ k inside.
+            joined-each room (λ i v. i < l .len + 1 → v ≡ k → routineAt g k .stage ≡ notStarted) (λ a e. rw (← e) stage)
+            (λ i n a e. t .starting k (i, omega arith, e)) (inside .0) (inside .1) (inside .2);
+      })
+
+  pub start-again : (stage : ℕ) → withStart (withStart l r stage) r stage ≡ withStart l r stage
+  unfolding withStart
+  start-again stage =
+      start-either l r stage (λ m. withStart m r stage ≡ m) (λ e. e) (λ room e new. rw (joined-in room, and-false))

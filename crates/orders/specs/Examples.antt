@@ -1,0 +1,83 @@
+-- Orders for T3's book, by evaluation: which are turned down, and what those to start are after some.
+use Prim.Native.Nat.{ℕ}
+use mathlib.Core.Path.{_≡_, refl}
+use mathlib.Core.Bool.{false}
+use mathlib.Core.List.{List, [], _∷_, map}
+use lib.ListN.{take}
+use Rattle.kinds.specs.Steps.{rowOf, decoded, stepAt}
+use Rattle.blocks.specs.Blocks.{viewAt, blockBy, stepOf, routineOf}
+use Rattle.book.specs.declared.Verdict.{Verdict}
+use Rattle.book.specs.Verdicts.{accepted, refused, firstRefusal}
+use Rattle.book.specs.Layout.{layoutVerdict, stepsBefore, directoryVerdict}
+use Rattle.book.specs.Book.{countsOf, stepsVerdict, routinePart, routineWalk, nestingVerdict, pausingVerdict, bookVerdict}
+use Rattle.book.specs.Examples.{t3}
+use Rattle.game.specs.declared.Routine.{Routine}
+use Rattle.game.specs.declared.Game.{Game}
+use Rattle.game.specs.Below.{allBelow, anyBelow}
+use Rattle.game.specs.Lines.{isIn}
+use Rattle.game.specs.Game.{continuing, ended, withRoutine, withStart}
+use Rattle.game.specs.Fitting.{routineFits, slotFits, entryFits, lineFits, countersFit, signalsFit, fitsBook}
+use Rattle.orders.specs.SetUp.{newGame}
+use Rattle.orders.specs.Orders.{orderVerdict, obeyed, ordered}
+
+-- a routine at its first step, with nothing begun and nothing asked
+abbrev pub inStage : ℕ → Routine
+inStage k =
+    record {
+      stage = k;
+      place = 0;
+      left = 0;
+      suspended = false;
+      begun = false;
+      stopping = false;
+      suspending = false;
+      resuming = false;
+    }
+
+abbrev pub fresh : Game
+fresh = newGame (countsOf t3)
+
+-- routine 1 is in this stage, and neither listed nor to start
+abbrev pub unlistedIn : ℕ → Game
+unlistedIn k = withRoutine fresh 1 (inStage k)
+
+pub record Example : Type 0 where
+  pub game : Game
+  pub kind : ℕ
+  pub number : ℕ
+  pub tells : Verdict
+
+-- one signal and two routines; an unknown kind; a start that adds nothing; games that do not fit, which is told before a wrong order
+abbrev pub examples : List Example
+examples =
+    record { game = fresh; kind = 0; number = 0; tells = accepted }
+    ∷ record { game = fresh; kind = 0; number = 1; tells = refused 8 0 }
+    ∷ record { game = fresh; kind = 4; number = 1; tells = accepted }
+    ∷ record { game = fresh; kind = 4; number = 2; tells = refused 8 0 }
+    ∷ record { game = fresh; kind = 5; number = 0; tells = refused 8 0 }
+    ∷ record { game = fresh; kind = 1; number = 0; tells = accepted }
+    ∷ record { game = unlistedIn ended; kind = 1; number = 1; tells = accepted }
+    ∷ record { game = unlistedIn continuing; kind = 1; number = 1; tells = refused 9 0 }
+    ∷ record { game = unlistedIn 5; kind = 5; number = 9; tells = refused 9 0 }
+    ∷ record { game = withRoutine fresh 0 (inStage ended); kind = 0; number = 0; tells = refused 9 0 }
+    ∷ record { game = withRoutine fresh 2 (inStage ended); kind = 0; number = 0; tells = refused 9 0 }
+    ∷ []
+
+pub as-told : map (λ e. ordered t3 (e .game) (e .kind) (e .number) .verdict) examples ≡ map (λ e. e .tells) examples
+unfolding ordered orderVerdict newGame fitsBook routineFits slotFits entryFits lineFits countersFit signalsFit isIn allBelow anyBelow
+    bookVerdict layoutVerdict directoryVerdict stepsVerdict nestingVerdict pausingVerdict routineWalk routinePart routineOf stepOf
+    blockBy viewAt stepAt decoded rowOf stepsBefore firstRefusal
+as-told = refl
+
+-- a start of a routine that has ended adds nothing
+pub ended-stays : obeyed (unlistedIn ended) 1 1 ≡ unlistedIn ended
+unfolding obeyed newGame withStart
+ended-stays = refl
+
+-- those to start once routine 1 was started, then both again
+abbrev pub startedAll : Game
+startedAll = obeyed (obeyed (obeyed fresh 1 1) 1 0) 1 1
+
+pub started-once : take (startedAll .starting .len) (startedAll .starting .items) ≡ (0 ∷ 1 ∷ [])
+unfolding obeyed newGame withStart isIn anyBelow
+started-once = refl

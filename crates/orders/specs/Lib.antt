@@ -1,0 +1,6 @@
+pub mod SetUp
+pub mod Orders
+pub mod Tells
+pub mod Joined
+pub mod Without
+pub mod Examples

@@ -1,0 +1,22 @@
+-- Why an order is turned down, or not: the clauses of document 01 that decide it.
+use Prim.Native.Nat.{ℕ, suc, _<_, _≤_}
+use mathlib.Core.List.{List}
+use Rattle.book.specs.declared.Verdict.{Verdict}
+use Rattle.book.specs.Verdicts.{accepted, refused}
+use Rattle.book.specs.Book.{countsOf}
+use Rattle.book.specs.Accepted.{Accepted}
+use Rattle.book.specs.Tells.{Tells}
+use Rattle.game.specs.declared.Game.{Game}
+use Rattle.game.specs.Fits.{Fits}
+use Rattle.orders.specs.Orders.{orderCount}
+
+-- "an order checks 1 to 7, then 9, 8"
+pub data OrderTells (s : List ℕ) (g : Game) (kind n : ℕ) : Verdict → Type 0 where
+  -- 1 to 7, as reading the book tells them
+  book : {k p : ℕ} → Tells s (suc k) p → OrderTells s g kind n (refused (suc k) p)
+  -- 9. "The game doesn't fit the book."
+  unfit : Accepted s → (Fits s g → ⊥) → OrderTells s g kind n (refused 9 0)
+  -- 8. "An order of unknown kind, or a number not below its count.": an unknown kind has the count 0
+  unknown : Accepted s → Fits s g → orderCount (countsOf s) kind ≤ n → OrderTells s g kind n (refused 8 0)
+  -- "both 0 where nothing is turned down"
+  nothing : Accepted s → Fits s g → n < orderCount (countsOf s) kind → OrderTells s g kind n accepted

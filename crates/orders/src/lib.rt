@@ -1,0 +1,161 @@
+// Setting up a game, and outside orders. Document 01, "The game".
+use book::Verdict;
+use book::layout::MOST_COUNTERS;
+use book::layout::MOST_ROUTINES;
+use book::layout::MOST_SIGNALS;
+use book::layout::counts_of;
+use book::read_book;
+use book::verdict_of;
+use game::Game;
+use game::Line;
+use game::MOST_ENTRIES;
+use game::blank_routine;
+use game::fitting::fits;
+use game::lines::push;
+use game::lines::with_start;
+use game::with_resume;
+use game::with_stop;
+use game::with_suspend;
+use kinds::Counts;
+ghost use mathlib.Core.Path.{_≡_};
+ghost use Prim.Native.Nat.{_<_};
+ghost use Rattle.book.specs.Verdicts.{refused};
+ghost use Rattle.orders.specs.SetUp.{newGame, setUp};
+ghost use Rattle.orders.specs.Orders.{orderCount, mostCounts, orderVerdict, obeyed, ordered};
+
+// The kinds of an order.
+pub const BROADCAST: u32 = 0;
+
+pub const START: u32 = 1;
+
+pub const STOP: u32 = 2;
+
+pub const SUSPEND: u32 = 3;
+
+pub const RESUME: u32 = 4;
+
+// What set-up and an order answer: the verdict, and the game, which is as lent after a refusal.
+pub struct Outcome {
+    pub verdict: Verdict,
+    pub game: Game,
+}
+
+// A game as set up for these numbers. The lent game's routines are overwritten one by one: an array of so many at once would be copied.
+fn new_game(counts: Counts, game: Game) -> Game
+    ensures { λ r. ⌜ r ≡ newGame counts ⌝ }
+{
+    let mut next = game;
+    let mut routine: usize = 0;
+    while routine < MOST_ROUTINES {
+        next.routines[routine] = blank_routine();
+        routine += 1;
+    }
+    let items = [0; MOST_ENTRIES];
+    let counters = [0; MOST_COUNTERS];
+    let broadcast = [false; MOST_SIGNALS];
+    let listed = Line { items, len: 0 };
+    let starting = push(listed, 0);
+    next.counts = counts;
+    next.counters = counters;
+    next.listed = listed;
+    next.starting = starting;
+    next.broadcast = broadcast;
+    next
+}
+
+// Replaces a lent game by the one that a play of the book begins with. Checks 1 to 7; a refusal hands the game back as lent.
+pub fn set_up(book: &[u8], game: Game) -> Outcome
+    ensures { λ r. ⌜ r ≡ setUp (now (book .entry)) game ⌝ }
+{
+    let verdict = verdict_of(read_book(book));
+    if verdict.number == 0 {
+        let next = new_game(counts_of(book), game);
+        return Outcome {
+            verdict,
+            game: next,
+        };
+    }
+    Outcome { verdict, game }
+}
+
+// How many numbers an order of this kind may name.
+fn order_count(counts: Counts, kind: u32) -> usize
+    ensures { λ r. ⌜ r ≡ orderCount counts kind ⌝ }
+{
+    match kind {
+        BROADCAST => counts.signals,
+        START => counts.routines,
+        STOP => counts.routines,
+        SUSPEND => counts.routines,
+        RESUME => counts.routines,
+        _ => 0,
+    }
+}
+
+fn told(number: u32) -> Verdict
+    ensures { λ r. ⌜ r ≡ refused number 0 ⌝ }
+{
+    Verdict { number, place: 0 }
+}
+
+// The refusal of an order: checks 1 to 7, then 9, then 8.
+fn order_verdict(book: &[u8], game: Game, kind: u32, number: u32) -> Verdict
+    ensures { λ r. ⌜ r ≡ orderVerdict (now (book .entry)) game kind number ⌝ }
+{
+    let verdict = verdict_of(read_book(book));
+    if verdict.number != 0 {
+        return verdict;
+    }
+    if !fits(book, game) {
+        return told(9);
+    }
+    if order_count(counts_of(book), kind) <= number as usize {
+        return told(8);
+    }
+    verdict
+}
+
+// A game with an order in its list or set for the next round. The number is a place in the array that the order's kind names.
+fn obey(game: Game, kind: u32, number: usize) -> Game
+    requires { ⌜ number < orderCount mostCounts kind ⌝ }
+    ensures { λ r. ⌜ r ≡ obeyed game kind number ⌝ }
+{
+    let mut next = game;
+    if kind == BROADCAST {
+        next.broadcast[number] = true;
+        return next;
+    }
+    let x = game.routines[number];
+    match kind {
+        START => {
+            let starting = game.starting;
+            next.starting = with_start(starting, number as u8, x.stage);
+        }
+        STOP => {
+            next.routines[number] = with_stop(x);
+        }
+        SUSPEND => {
+            next.routines[number] = with_suspend(x);
+        }
+        RESUME => {
+            next.routines[number] = with_resume(x);
+        }
+        _ => {}
+    }
+    next
+}
+
+// Gives a game an outside order for the next round; a refusal hands the game back as lent. The kind and the number may be anything.
+pub fn order(book: &[u8], game: Game, kind: u32, number: u32) -> Outcome
+    ensures { λ r. ⌜ r ≡ ordered (now (book .entry)) game kind number ⌝ }
+{
+    let verdict = order_verdict(book, game, kind, number);
+    if verdict.number == 0 {
+        let next = obey(game, kind, number as usize);
+        return Outcome {
+            verdict,
+            game: next,
+        };
+    }
+    Outcome { verdict, game }
+}
