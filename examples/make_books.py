@@ -53,6 +53,10 @@ def join(routine):
     return step(10, a=routine)
 
 
+def join_for(routine, rounds):
+    return step(11, a=routine, n=rounds)
+
+
 def read(number, counter, k):
     return step(12, a=number, b=counter, n=k)
 
