@@ -1,40 +1,26 @@
 -- After an order that is accepted the game fits the book, and the same order again answers the same and leaves the same game.
 -- The reason of what is told says that the game before it fits, and the game after it is the one that obeys.
-use Prim.Native.Nat.{ℕ, _<_}
+use Prim.Native.Nat.{ℕ}
 use mathlib.Core.Path.{_≡_, sym, _∙_, ap}
 use mathlib.Core.List.{List}
-use native.Mathlib.Omega.{arith}
 use native.Mathlib.Decide.{ℕ-discrete}
 use borrow.Author.Tests.{eq-eqb}
-use Rattle.book.specs.declared.Verdict.{Verdict}
 use Rattle.book.specs.Verdicts.{accepted}
-use Rattle.book.specs.Book.{countsOf}
-use Rattle.book.specs.Accepted.{Accepted}
 use Rattle.game.specs.declared.Game.{Game}
 use Rattle.game.specs.Game.{Sized}
 use Rattle.game.specs.Fitting.{fitsBook}
 use Rattle.game.specs.Fits.{Fits}
 use Rattle.game.proofs.Decides.{fits-decides}
 use Rattle.orders.specs.declared.Outcome.{Outcome}
-use Rattle.orders.specs.Orders.{orderCount, orderVerdict, obeyed, ordered}
+use Rattle.orders.specs.Orders.{orderVerdict, obeyed, ordered}
 use Rattle.orders.specs.Tells.{OrderTells}
 use Rattle.orders.proofs.Games.{game-lent, game-either}
 use Rattle.orders.proofs.Obeyed.{obeyed-fits, obeyed-sized, obeyed-again}
-use Rattle.orders.proofs.Telling.{order-told-only, order-tells}
+use Rattle.orders.proofs.Telling.{Right, told-right, order-told-only, order-tells}
 
 -- the answer of an order that is accepted
 abbrev given : Game → Outcome
 given g = record { verdict = accepted; game = g }
-
--- what an accepted order is accepted for
-abbrev pub Right : List ℕ → Game → ℕ → ℕ → Type 0
-Right s g kind n = Accepted s × Fits s g × (n < orderCount (countsOf s) kind)
-
-pub told-right : {s : List ℕ} {g : Game} {kind n : ℕ} {v : Verdict} → OrderTells s g kind n v → v .number ≡ 0 → Right s g kind n
-told-right (OrderTells.book t) e = absurd (omega arith)
-told-right (OrderTells.unfit a m) e = absurd (omega arith)
-told-right (OrderTells.unknown a f h) e = absurd (omega arith)
-told-right (OrderTells.nothing a f h) e = (a, f, h)
 
 right-given : (s : List ℕ) (g : Game) (kind n : ℕ) → Right s g kind n → ordered s g kind n ≡ given (obeyed g kind n)
 unfolding ordered

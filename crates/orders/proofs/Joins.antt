@@ -17,8 +17,7 @@ use Rattle.game.specs.Fits.{Fits}
 use Rattle.game.proofs.Room.{start-joins}
 use Rattle.orders.specs.Orders.{orderCount, obeyed, ordered}
 use Rattle.orders.specs.Joined.{Joined}
-use Rattle.orders.proofs.After.{told-right}
-use Rattle.orders.proofs.Telling.{order-tells}
+use Rattle.orders.proofs.Telling.{told-right, order-tells}
 
 module _ (s : List ℕ) (g : Game) (range : CountsInRange s) (z : Sized g) where
   flagged : (n : ℕ) (x : Routine) (flag : Routine → Bool) → flag x ≡ true → n < routinesOf s → flag (routineAt (withRoutine g n x) n) ≡ true

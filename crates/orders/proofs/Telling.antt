@@ -1,6 +1,6 @@
 -- What an order is told is told for the reason that document 01 gives, and nothing else is.
 -- A reason settles each check up to its own, so it is enough to find one.
-use Prim.Native.Nat.{ℕ, zero, suc}
+use Prim.Native.Nat.{ℕ, zero, suc, _<_}
 use mathlib.Core.Path.{_≡_, refl}
 use mathlib.Core.Bool.{true, Bool-discrete}
 use mathlib.Core.List.{List}
@@ -10,11 +10,13 @@ use borrow.Author.Tests.{lt-ltb, le-ltb}
 use Rattle.book.specs.declared.Verdict.{Verdict}
 use Rattle.book.specs.Verdicts.{refused}
 use Rattle.book.specs.Book.{countsOf, bookVerdict}
+use Rattle.book.specs.Accepted.{Accepted}
 use Rattle.book.specs.Tells.{Tells}
 use Rattle.book.proofs.First.{orElse-told}
 use Rattle.book.proofs.Telling.{tells, told-only, number-accepted}
 use Rattle.game.specs.declared.Game.{Game}
 use Rattle.game.specs.Fitting.{fitsBook}
+use Rattle.game.specs.Fits.{Fits}
 use Rattle.game.proofs.Below.{not-true-false}
 use Rattle.game.proofs.Decides.{fits-decides}
 use Rattle.orders.specs.Orders.{orderCount, orderVerdict}
@@ -55,3 +57,13 @@ module _ (s : List ℕ) (g : Game) (kind n : ℕ) where
             ]
         | no h ↦ told (book-refuses (bookVerdict s .number) (bookVerdict s .place) h (tells s))
       ]
+
+-- what an accepted order is accepted for
+abbrev pub Right : List ℕ → Game → ℕ → ℕ → Type 0
+Right s g kind n = Accepted s × Fits s g × (n < orderCount (countsOf s) kind)
+
+pub told-right : {s : List ℕ} {g : Game} {kind n : ℕ} {v : Verdict} → OrderTells s g kind n v → v .number ≡ 0 → Right s g kind n
+told-right (OrderTells.book t) e = absurd (omega arith)
+told-right (OrderTells.unfit a m) e = absurd (omega arith)
+told-right (OrderTells.unknown a f h) e = absurd (omega arith)
+told-right (OrderTells.nothing a f h) e = (a, f, h)
