@@ -1,4 +1,4 @@
--- A test at each, or at one, of the first n numbers: what the answer says of each number, and one turn of a loop over them.
+-- Tests: what a joined one says, a choice by one, and one at each, or at one, of the first n numbers, with one turn of a loop over them.
 -- By induction on n: the last of the first n + 1 numbers is n itself.
 use Prim.Native.Nat.{ℕ, zero, suc, _+_, _<_, _≤_}
 use mathlib.Core.Path.{_≡_, refl, sym}
@@ -6,11 +6,12 @@ use mathlib.Core.Bool.{Bool, true, false, _&&_, true≢false, Bool-discrete, and
 use native.Mathlib.Omega.{arith}
 use native.Mathlib.Decide.{ℕ-discrete}
 use native.Mathlib.Numerals.{add-one}
+use Rattle.numbers.specs.Choice.{if_then_else_}
 use Rattle.game.specs.Below.{allBelow, anyBelow}
 
-pub and-true : (a b : Bool) → (a && b) ≡ true → (a ≡ true) × (b ≡ true)
-and-true true b h = (refl, h)
-and-true false b h = absurd (true≢false (sym h))
+pub and-both : (a b : Bool) → (a && b) ≡ true → (a ≡ true) × (b ≡ true)
+and-both true b h = (refl, h)
+and-both false b h = absurd (true≢false (sym h))
 
 pub not-true-false : (b : Bool) → (b ≡ true → ⊥) → b ≡ false
 not-true-false true n = absurd (n refl)
@@ -19,12 +20,17 @@ not-true-false false n = refl
 pub both-true : {a b : Bool} → a ≡ true → b ≡ true → (a && b) ≡ true
 both-true h k = rw (h, k)
 
+-- a claim on both sides of a choice, each where it is taken, holds of what is taken
+pub by-test : {A : Type 0} (P : A → Type 0) (t : Bool) {x y : A} → (t ≡ true → P x) → (t ≡ false → P y) → P (if t then x else y)
+by-test P true p q = p refl
+by-test P false p q = q refl
+
 module _ (test : ℕ → Bool) where
   pub all-holds : (n : ℕ) → allBelow n test ≡ true → (i : ℕ) → i < n → test i ≡ true
   unfolding allBelow
   all-holds zero h i l = absurd (omega arith)
   all-holds (suc n) h i l =
-      let both = and-true (allBelow n test) (test n) h in
+      let both = and-both (allBelow n test) (test n) h in
       elim (ℕ-discrete i n) [ yes e ↦ rw e (both .1) | no ne ↦ all-holds n (both .0) i (omega arith) ]
 
   pub all-true : (n : ℕ) → ((i : ℕ) → i < n → test i ≡ true) → allBelow n test ≡ true
@@ -52,11 +58,6 @@ module _ (test : ℕ → Bool) where
   any-holds zero i l h = absurd (omega arith)
   any-holds (suc n) i l h =
       elim (ℕ-discrete i n) [ yes e ↦ rw (← e, h, or-true) | no ne ↦ rw (any-holds n i (omega arith) h) ]
-
-  pub any-none : (n : ℕ) → ((i : ℕ) → i < n → test i ≡ false) → anyBelow n test ≡ false
-  unfolding anyBelow
-  any-none zero h = refl
-  any-none (suc n) h = rw (any-none n (λ i l. h i (omega arith)), h n (omega arith))
 
   pub any-next : (i : ℕ) → anyBelow i test ≡ false → test i ≡ false → anyBelow (i + 1) test ≡ false
   unfolding anyBelow

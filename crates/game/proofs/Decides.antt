@@ -21,7 +21,7 @@ use Rattle.game.specs.Lines.{mostEntries}
 use Rattle.game.specs.Game.{blank, routineAt}
 use Rattle.game.specs.Fitting.{sameCounts, slotFits, countersFit, signalsFit, fitsBook}
 use Rattle.game.specs.Fits.{In, BothLists, Fits}
-use Rattle.game.proofs.Below.{and-true}
+use Rattle.game.proofs.Below.{and-both}
 use Rattle.game.proofs.Tests.{not-less, equal, fails, and-then, both, or-else, by-order, each}
 use Rattle.game.proofs.Lists.{LineRight, is-in, line-right}
 use Rattle.game.proofs.Routines.{RoutineRight, routine-right, is-blank}
@@ -43,7 +43,7 @@ ordered : (a b : ℤ) → (leZ a b ≡ true) ↔ (a ≤ℤ b)
 ordered a b = (λ e. record { le = rw e tt }, λ h. holds (leZ a b) (h .le))
 
 only-zero : (v : ℤ) → isWithin v (pos 0) (pos 0) ≡ true → v ≡ pos 0
-only-zero (pos n) h = ap pos (omega (arith, leb-true n 0 (and-true (leb 0 n) (leb n 0) h .1)))
+only-zero (pos n) h = ap pos (omega (arith, leb-true n 0 (and-both (leb 0 n) (leb n 0) h .1)))
 only-zero (negsuc n) h = absurd (true≢false (sym h))
 
 -- of the counters that are kept, those below C are in range and the others are 0

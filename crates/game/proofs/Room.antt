@@ -5,8 +5,7 @@ use mathlib.Core.Path.{_≡_, sym, _∙_}
 use mathlib.Core.Bool.{true, and-false, Bool-discrete}
 use mathlib.Core.List.{List}
 use native.Mathlib.Omega.{arith}
-use native.Mathlib.Decide.{ℕ-discrete}
-use borrow.Author.Tests.{eq-eqb, ne-eqb, lt-ltb}
+use borrow.Author.Tests.{eqb-true, eqb-false, eq-eqb, lt-ltb}
 use lib.Dec.{eqb}
 use lib.Seq.{getD-set-same}
 use Rattle.numbers.specs.Choice.{if_then_else_}
@@ -17,13 +16,13 @@ use Rattle.game.specs.declared.Game.{Game}
 use Rattle.game.specs.Lines.{mostEntries, itemAt, isIn}
 use Rattle.game.specs.Game.{notStarted, routineAt, withStart, Sized}
 use Rattle.game.specs.Fits.{In, Fits}
-use Rattle.game.proofs.Below.{not-true-false}
+use Rattle.game.proofs.Below.{not-true-false, by-test}
 use Rattle.game.proofs.Lists.{LineRight, is-in}
 use Rattle.game.proofs.Decides.{fit-lists}
 
 -- a claim on both sides of a choice by whether two numbers are equal
 either : {A : Type 0} (P : A → Type 0) (a b : ℕ) {x y : A} → (a ≡ b → P x) → ((a ≡ b → ⊥) → P y) → P (if eqb a b then x else y)
-either P a b same other = elim (ℕ-discrete a b) [ yes e ↦ rw (eq-eqb a b e) (same e) | no n ↦ rw (ne-eqb a b n) (other n) ]
+either P a b same other = by-test P (eqb a b) (λ e. same (eqb-true a b e)) (λ e. other (eqb-false a b e))
 
 -- Different numbers below k are at most k: the last one takes the place of k - 1 among the others, which then lie below k - 1.
 few : (k m : ℕ) (f : ℕ → ℕ) → ((i : ℕ) → i < m → f i < k) → ((i j : ℕ) → i < j → j < m → f i ≡ f j → ⊥) → m ≤ k

@@ -8,7 +8,7 @@ use lib.Dec.{ltb, leb, eqb}
 use borrow.Author.Tests.{ltb-true, ltb-false, lt-ltb, le-ltb, leb-true, le-leb, eqb-true, eq-eqb, not-true}
 use Rattle.numbers.specs.Choice.{if_then_else_}
 use Rattle.game.specs.Below.{allBelow, anyBelow}
-use Rattle.game.proofs.Below.{and-true, not-true-false, both-true, all-holds, all-true, any-holds, any-found}
+use Rattle.game.proofs.Below.{and-both, not-true-false, both-true, all-holds, all-true, any-holds, any-found}
 
 pub less : (a b : ℕ) → (ltb a b ≡ true) ↔ (a < b)
 less a b = (ltb-true a b, lt-ltb a b)
@@ -34,7 +34,7 @@ denied t p = Iff·trans (fails t) (refuted p)
 -- the second of two tests may lean on what the first says
 pub and-then : {P Q : Type 0} {a b : Bool} → (a ≡ true) ↔ P → (P → (b ≡ true) ↔ Q) → ((a && b) ≡ true) ↔ (P × Q)
 and-then {a = a} {b = b} p q = (
-  λ h. let (first, second) = and-true a b h in (p .0 first, q (p .0 first) .0 second),
+  λ h. let (first, second) = and-both a b h in (p .0 first, q (p .0 first) .0 second),
   λ h. both-true (p .1 (h .0)) (q (h .0) .1 (h .1)),
 )
 

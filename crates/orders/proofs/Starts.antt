@@ -15,9 +15,8 @@ use Rattle.game.specs.declared.Line.{Line}
 use Rattle.game.specs.declared.Game.{Game}
 use Rattle.game.specs.Lines.{mostEntries, itemAt, isIn}
 use Rattle.game.specs.Game.{notStarted, routineAt, withStart}
-use Rattle.game.proofs.Below.{and-true}
+use Rattle.game.proofs.Below.{and-both, by-test}
 use Rattle.game.proofs.Lists.{LineRight, is-in}
-use Rattle.orders.proofs.Games.{choice}
 use Rattle.orders.proofs.Changed.{Starts}
 
 -- routine r behind the last entry
@@ -31,10 +30,10 @@ module _ (l : Line) (r stage : ℕ) where
       (l .len < mostEntries → stage ≡ notStarted → isIn l r ≡ false → P (joined l r)) → P (withStart l r stage)
   unfolding withStart
   start-either P same added =
-      choice (λ m. withStart l r stage ≡ m → P m) (eqb stage notStarted && not (isIn l r))
+      by-test (λ m. withStart l r stage ≡ m → P m) (eqb stage notStarted && not (isIn l r))
       (λ new.
-      let both = and-true (eqb stage notStarted) (not (isIn l r)) new in
-      choice (λ m. withStart l r stage ≡ m → P m) (ltb (l .len) mostEntries)
+      let both = and-both (eqb stage notStarted) (not (isIn l r)) new in
+      by-test (λ m. withStart l r stage ≡ m → P m) (ltb (l .len) mostEntries)
       (λ room e. added (ltb-true _ _ room) (eqb-true _ _ (both .0)) (not-true _ (both .1)))
       (λ full. same))
       (λ old. same)
