@@ -34,6 +34,11 @@ pub const SUSPEND: u32 = 3;
 
 pub const RESUME: u32 = 4;
 
+// The numbers of the refusals that an order tells after those of its book.
+const UNFIT: u32 = 9;
+
+const WRONG_ORDER: u32 = 8;
+
 // What set-up and an order answer: the verdict, and the game, which is as lent after a refusal.
 pub struct Outcome {
     pub verdict: Verdict,
@@ -92,6 +97,7 @@ fn order_count(counts: Counts, kind: u32) -> usize
     }
 }
 
+// A refusal, whose place is 0.
 fn told(number: u32) -> Verdict
     ensures { λ r. ⌜ r ≡ refused number 0 ⌝ }
 {
@@ -107,10 +113,10 @@ fn order_verdict(book: &[u8], game: Game, kind: u32, number: u32) -> Verdict
         return verdict;
     }
     if !fits(book, game) {
-        return told(9);
+        return told(UNFIT);
     }
     if order_count(counts_of(book), kind) <= number as usize {
-        return told(8);
+        return told(WRONG_ORDER);
     }
     verdict
 }
