@@ -7,16 +7,12 @@ use native.Mathlib.Nat.{add-zero}
 use native.Mathlib.Omega.{arith}
 use native.Mathlib.Decide.{decLt}
 use lib.ListN.{length, getD, take, drop, length-take, length-drop}
-use lib.Seq.{getD-take, getD-drop, drop-drop, length-take-le, take-all}
+use lib.Seq.{getD-take, getD-drop, drop-drop, length-take-le}
 use Rattle.kinds.specs.declared.Counts.{Counts}
 use Rattle.book.specs.Layout.{stepsOf, stepsFrom, firstStep, stepCount}
 use Rattle.kinds.specs.Steps.{stepBytes, decoded, opAt, fieldA, fieldB, fieldN, stepAt}
 use Rattle.book.specs.Book.{stepsPart, routinePart, routineSteps}
 use Rattle.kinds.proofs.Readable.{step-there, step-missing}
-
--- the rest of a list from a place on, however that place is told
-pub rest-from : (s : List ℕ) {a b : ℕ} → a ≡ b → take (length s - a) (drop a s) ≡ drop b s
-rest-from s {a} e = rw (← e) (take-all (length s - a) (drop a s) (omega (arith, length-drop a s)))
 
 -- step i of s has the bytes of step j of t, and is there if that one is
 pub record SameStep (s : List ℕ) (i : ℕ) (t : List ℕ) (j : ℕ) : Type 0 where

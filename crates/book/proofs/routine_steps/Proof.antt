@@ -10,7 +10,7 @@ use borrow.Author.Needs.{needs}
 use Rattle.kinds.specs.Steps.{stepBytes}
 use Rattle.book.specs.Layout.{stepCount}
 use Rattle.book.specs.Book.{routineFrom, routinePart, routineSteps}
-use Rattle.book.proofs.Parts.{rest-from}
+use Rattle.numbers.proofs.Parts.{rest-from}
 use Rattle.book.proofs.routine_steps.Statement.{statement}
 use Rattle.book.proofs.routine_steps.Tie as tie
 

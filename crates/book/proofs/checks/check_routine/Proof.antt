@@ -21,7 +21,7 @@ use Rattle.book.proofs.Decided.{directed}
 use Rattle.book.proofs.Directory.{routine-start}
 use Rattle.blocks.proofs.Faults.{misnested, unreadable-at}
 use Rattle.book.proofs.Laid.{laid-out}
-use Rattle.book.proofs.Parts.{rest-from}
+use Rattle.numbers.proofs.Parts.{rest-from}
 use Rattle.blocks.proofs.Views.{view-beyond, view-inside}
 use Rattle.book.proofs.checks.check_routine.Statement.{statement}
 use Rattle.book.proofs.checks.check_routine.Tie as tie

@@ -14,7 +14,7 @@ use Rattle.kinds.specs.Steps.{stepAt}
 use Rattle.book.specs.Book.{countsOf, stepsPart, stepVerdict, stepsVerdict}
 use Rattle.book.proofs.Laid.{laid-out}
 use Rattle.book.proofs.First.{first-begins, first-stops, first-goes, first-ends}
-use Rattle.book.proofs.Parts.{rest-from}
+use Rattle.numbers.proofs.Parts.{rest-from}
 use Rattle.book.proofs.checks.check_steps.Statement.{statement}
 use Rattle.book.proofs.checks.check_steps.Tie as tie
 
