@@ -1,30 +1,35 @@
 -- The search for an opening's partner finds the marker at which, by the parse, the block behind the opening stops.
--- The search goes by the ops, and the parse by the forms: the rows of the table are compared once, a look at a row.
+-- The search goes by the ops, and the parse by the forms: they are compared row by row of the table, in which a step's op has its kind.
 -- From there on the search passes over a block's steps with the blocks in them, and is behind them as deep as before them.
 use Prim.Native.Nat.{ℕ, zero, suc, _+_, _-_, _/_, _<_}
-use mathlib.Core.Path.{_≡_, refl, sym, ap, _∙_}
-use mathlib.Core.Bool.{Bool, true, false, _&&_}
+use mathlib.Core.Path.{_≡_, refl, sym, ap, _∙_, subst}
+use mathlib.Core.Bool.{Bool, true, false}
 use mathlib.Core.List.{List, [], _∷_}
 use mathlib.Core.Logic.{_⊎_, inl, inr}
+use native.Mathlib.Decide.{decLt}
 use native.Mathlib.Nat.{add-zero, add-suc, zero-add, suc-add}
 use native.Mathlib.Numerals.{add-one}
 use native.Mathlib.Omega.{arith}
-use lib.Dec.{eqb, ltb}
+use lib.Dec.{eqb}
 use lib.IntN.{ℤ}
 use lib.ListN.{getD, length}
-use borrow.Author.Tests.{ltb-true, ne-eqb}
+use borrow.Author.Tests.{ne-eqb}
 use Rattle.numbers.specs.Choice.{if_then_else_}
 use Rattle.numbers.specs.Numbers.{countOf}
 use Rattle.kinds.specs.declared.Kind.{Kind}
+use Rattle.kinds.specs.declared.Kind.the-variants.{Else}
+use Rattle.kinds.specs.declared.Step.{Step}
 use Rattle.kinds.specs.declared.Step.the-variants as step
 use Rattle.kinds.specs.declared.Counts.{Counts}
 use Rattle.kinds.specs.declared.Row.{Row}
 use Rattle.kinds.specs.declared.Form.{Form}
 use Rattle.kinds.specs.declared.Form.the-variants.{Plain, Pausing, IfOpening, ElseMarker, WhileOpening, EndMarker}
-use Rattle.kinds.specs.Steps.{stepBytes, table, rowOf, decoded, opAt, fieldA, fieldB, fieldN, stepAt}
+use Rattle.kinds.specs.Steps.{stepBytes, table, rowOf, opAt, fieldA, fieldB, fieldN, stepAt}
 use Rattle.kinds.specs.Forms.{formOf}
-use Rattle.blocks.specs.Blocks.{View, beyond, stands, seen, viewAt, partnerBy, partnerOf}
+use Rattle.kinds.proofs.Readable.{kind-not-refused, rowAt, step-missing, readable-step, step-readable}
+use Rattle.blocks.specs.Blocks.{View, stands, seen, viewAt, partnerBy, partnerOf}
 use Rattle.blocks.specs.Parse.{ParsedBlock, empty, more, ParsedStep, plain, pausing, ifOnly, ifElse, loop}
+use Rattle.blocks.proofs.Views.{view-beyond, view-seen, stands-within}
 
 -- partnerBy's look at place p, by the form of the step there instead of its op
 abbrev pub lookAt : Form → (ℕ → ℕ) → ℕ → ℕ → ℕ
@@ -35,80 +40,100 @@ lookAt ElseMarker on d p = if eqb d 0 then p else on d
 lookAt WhileOpening on d p = on (d + 1)
 lookAt EndMarker on d p = if eqb d 0 then p else on (d - 1)
 
-and-left : (x y : Bool) → x && y ≡ true → x ≡ true
-and-left true y h = refl
-and-left false y h = h
+-- the kind of a step that stands
+kind-seen : (x : Step) {f : Form} → seen x ≡ stands f → (k : Kind) × (x ≡ step.Kind k) × (formOf k ≡ f)
+kind-seen (step.Kind k) h = (k, refl, cc)
+kind-seen step.Refused h = (Else, cc, cc)
 
--- what stands has passed the test before it
-kind-stands : (t : Bool) (k : Kind) {f : Form} → seen (if t then step.Kind k else step.Refused) ≡ stands f → (t ≡ true) × (formOf k ≡ f)
-kind-stands true k h = (refl, cc)
-kind-stands false k h = (cc, cc)
+-- a step that is read has its bytes in the book, and its row's kind
+module _ (counts : Counts) (s : List ℕ) (i : ℕ) where
+  step-below : {k : Kind} → stepAt counts s i ≡ step.Kind k → i < length s / stepBytes
+  step-below e =
+      elim (decLt i (length s / stepBytes)) [
+        | yes h ↦ h
+        | no h ↦ absurd (kind-not-refused (sym e ∙ step-missing counts s i (omega arith)))
+      ]
 
-place-stands : (t : Bool) (x : View) {f : Form} → (if t then x else beyond) ≡ stands f → (t ≡ true) × (x ≡ stands f)
-place-stands true x h = (refl, h)
-place-stands false x h = (cc, cc)
+  pub row-kind : {k : Kind} → stepAt counts s i ≡ step.Kind k → rowAt counts s i .4 ≡ k
+  row-kind e = cc (readable-step counts s i (step-below e) (step-readable counts s i e))
+
+-- what holds of a row, and what holds of the rows behind it
+infixr 5 _and_
+pub _and_ : {A B : Type 0} → A → B → A × B
+x and y = (x, y)
+
+module _ (P : ℕ → Row → Type 0) where
+  -- in a list of rows whose first is that of op i, P holds of each row's op and of the row
+  abbrev pub Rows : ℕ → List Row → Type 0
+  Rows i [] = Unit {0}
+  Rows i (r ∷ rs) = P i r × Rows (suc i) rs
+
+  -- an op behind the list has the row of an unknown op, whose a has no value
+  row-holds :
+      (rs : List Row) (unknown : Row) (a i j : ℕ) →
+      Rows i rs → unknown .0 ≡ 0 → a < getD rs j unknown .0 → P (i + j) (getD rs j unknown)
+  row-holds [] unknown a i j x e h = absurd (omega arith)
+  row-holds (r ∷ rs) unknown a i zero x e h = rw add-zero (x .0)
+  row-holds (r ∷ rs) unknown a i (suc j) x e h = rw (add-suc i j, ← (suc-add i j)) (row-holds rs unknown a (suc i) j (x .1) e h)
+
+  -- what holds of the table's rows holds of the op and the row of a step that is read
+  pub step-holds :
+      (counts : Counts) (s : List ℕ) (i : ℕ) {k : Kind} →
+      Rows 0 (table counts (fieldA s i) (fieldB s i) (fieldN s i)) → stepAt counts s i ≡ step.Kind k → P (opAt s i) (rowAt counts s i)
+  unfolding rowOf
+  step-holds counts s i x e =
+      let rows = table counts (fieldA s i) (fieldB s i) (fieldN s i) in
+      subst (λ (op : ℕ). P op (rowAt counts s i)) (zero-add (opAt s i))
+      (row-holds rows _ (fieldA s i) 0 (opAt s i) x refl (step-readable counts s i e .aFits))
 
 module _ (on : ℕ → ℕ) (d p : ℕ) where
-  infixr 5 _and_
-  -- in a list of rows whose first is that of op i, the look at each row's op is the look at the form of its kind
-  data Looks : ℕ → List Row → Type 0 where
-    none : {i : ℕ} → Looks i []
-    _and_ :
-        {i : ℕ} {r : Row} {rs : List Row} →
-        partnerBy on i d p ≡ lookAt (formOf (r .4)) on d p → Looks (suc i) rs → Looks i (r ∷ rs)
+  -- the look at a row's op is the look at the form of its kind
+  abbrev SameLook : ℕ → Row → Type 0
+  SameLook op r = partnerBy on op d p ≡ lookAt (formOf (r .4)) on d p
 
   -- op 7, which pauses or not
   rest-look : (t : Bool) → on d ≡ lookAt (if t then Plain else Pausing) on d p
   rest-look true = refl
   rest-look false = refl
 
-  table-looks : (counts : Counts) (a b : ℕ) (n : ℤ) → Looks 0 (table counts a b n)
+  table-looks : (counts : Counts) (a b : ℕ) (n : ℤ) → Rows SameLook 0 (table counts a b n)
   table-looks counts a b n =
       refl and refl and refl and refl and refl and refl and refl and rest-look (eqb (countOf n) 0) and refl and refl and refl
-      and refl and refl and refl and refl and refl and refl and refl and refl and refl and refl and none
-
-  -- an op behind the list has the row of an unknown op, whose a has no value
-  row-look :
-      {rs : List Row} (unknown : Row) (a i j : ℕ) →
-      Looks i rs → unknown .0 ≡ 0 → ltb a (getD rs j unknown .0) ≡ true →
-      partnerBy on (i + j) d p ≡ lookAt (formOf (getD rs j unknown .4)) on d p
-  row-look unknown a i j none e h = absurd (omega (arith, ltb-true a (unknown .0) h))
-  row-look unknown a i zero (x and xs) e h = rw add-zero x
-  row-look unknown a i (suc j) (x and xs) e h = rw (add-suc i j, ← (suc-add i j)) (row-look unknown a (suc i) j xs e h)
-
-  decoded-look :
-      (t : Bool) (counts : Counts) (op a b : ℕ) (n : ℤ) {f : Form} →
-      seen (if t then decoded counts op a b n else step.Refused) ≡ stands f → partnerBy on op d p ≡ lookAt f on d p
-  unfolding decoded rowOf
-  decoded-look true counts op a b n h =
-      let (t, e) = kind-stands _ _ h in
-      let k = row-look _ a 0 op (table-looks counts a b n) refl (and-left _ _ (and-left _ _ t)) in
-      ap (λ (i : ℕ). partnerBy on i d p) (sym (zero-add op)) ∙ k ∙ ap (λ (g : Form). lookAt g on d p) e
-  decoded-look false counts op a b n h = cc
+      and refl and refl and refl and refl and refl and refl and refl and refl and refl and refl and tt
 
   -- the op decides whether a step opens, is a marker, or neither
   pub step-look :
       (counts : Counts) (s : List ℕ) (i : ℕ) {f : Form} →
       seen (stepAt counts s i) ≡ stands f → partnerBy on (opAt s i) d p ≡ lookAt f on d p
-  unfolding stepAt
-  step-look counts s i h = decoded-look (ltb i (length s / stepBytes)) counts (opAt s i) (fieldA s i) (fieldB s i) (fieldN s i) h
+  step-look counts s i h =
+      let (k, e, g) = kind-seen (stepAt counts s i) h in
+      step-holds SameLook counts s i (table-looks counts (fieldA s i) (fieldB s i) (fieldN s i)) e
+      ∙ ap (λ (f : Form). lookAt f on d p) (ap formOf (row-kind counts s i e) ∙ g)
 
 -- a part of the book, whose first n steps are a routine's
 module _ (counts : Counts) (s : List ℕ) (n : ℕ) where
   abbrev at : ℕ → View
   at = viewAt counts s n
 
+  place-below : (p : ℕ) {f : Form} → at p ≡ stands f → p < n
+  place-below p h = stands-within at n (view-beyond counts s n) p h
+
+  seen-there : (p : ℕ) {f : Form} → at p ≡ stands f → seen (stepAt counts s p) ≡ stands f
+  seen-there p h = sym (view-seen counts s n p (place-below p h)) ∙ h
+
+  -- a step that stands at a place is one of the kinds
+  pub kind-there : (p : ℕ) {f : Form} → at p ≡ stands f → (k : Kind) × (stepAt counts s p ≡ step.Kind k) × (formOf k ≡ f)
+  kind-there p h = kind-seen (stepAt counts s p) (seen-there p h)
+
   -- what the search from place p on comes to, with d inner pairs open
   abbrev found : ℕ → ℕ → ℕ
   found d p = partnerOf s (n - p) d p
 
   found-look : (d p : ℕ) {f : Form} → at p ≡ stands f → found d p ≡ lookAt f (λ c. found c (suc p)) d p
-  unfolding viewAt partnerOf
+  unfolding partnerOf
   found-look d p h =
-      let (t, e) = place-stands _ _ h in
-      let l : p < n = ltb-true p n t in
-      let left : n - p ≡ suc (n - suc p) = omega arith in
-      rw (left, add-one p) (step-look (λ c. found c (suc p)) d p counts s p e)
+      let left : n - p ≡ suc (n - suc p) = omega (arith, place-below p h) in
+      rw (left, add-one p) (step-look (λ c. found c (suc p)) d p counts s p (seen-there p h))
 
   -- within an inner pair an else is passed over, and an end closes the pair
   past-else : (d p : ℕ) → at p ≡ stands ElseMarker → found (d + 1) p ≡ found (d + 1) (suc p)

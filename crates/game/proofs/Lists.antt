@@ -22,7 +22,7 @@ pub record LineRight (l : Line) (routines : ℕ) : Type 0 where
 
 -- all entries of a list that is not too long count, so the search goes through them
 module _ (l : Line) (short : l .len ≤ mostEntries) where
-  used-all : usedOf l ≡ l .len
+  pub used-all : usedOf l ≡ l .len
   used-all =
       elim (decLt (l .len) mostEntries) [
         | yes h ↦ rw (lt-ltb (l .len) mostEntries h)

@@ -25,7 +25,7 @@ either : {A : Type 0} (P : A → Type 0) (a b : ℕ) {x y : A} → (a ≡ b → 
 either P a b same other = by-test P (eqb a b) (λ e. same (eqb-true a b e)) (λ e. other (eqb-false a b e))
 
 -- Different numbers below k are at most k: the last one takes the place of k - 1 among the others, which then lie below k - 1.
-few : (k m : ℕ) (f : ℕ → ℕ) → ((i : ℕ) → i < m → f i < k) → ((i j : ℕ) → i < j → j < m → f i ≡ f j → ⊥) → m ≤ k
+pub few : (k m : ℕ) (f : ℕ → ℕ) → ((i : ℕ) → i < m → f i < k) → ((i j : ℕ) → i < j → j < m → f i ≡ f j → ⊥) → m ≤ k
 few k zero f below once = omega arith
 few zero (suc m) f below once = absurd (omega (arith, below 0 (omega arith)))
 few (suc k) (suc m) f below once =

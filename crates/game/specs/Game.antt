@@ -97,7 +97,7 @@ withResume x = withFlags x (x .stopping) (x .suspending) true
 unfoldable pub withStart : Line → ℕ → ℕ → Line
 withStart l r stage = if eqb stage notStarted && not (isIn l r) then pushed l r else l
 
--- a game with other routines, another list of those to start, another set to broadcast
+-- a game with other routines, another list of those to start, another set to broadcast, another counter
 abbrev pub withRoutines : Game → List Routine → Game
 withRoutines g l =
     record {
@@ -129,6 +129,18 @@ withBroadcast g l =
       listed = g .listed;
       starting = g .starting;
       broadcast = l;
+    }
+
+-- counter c has content v
+abbrev pub withCounter : Game → ℕ → ℤ → Game
+withCounter g c v =
+    record {
+      counts = g .counts;
+      routines = g .routines;
+      counters = set (g .counters) c v;
+      listed = g .listed;
+      starting = g .starting;
+      broadcast = g .broadcast;
     }
 
 -- routine r becomes x

@@ -1,8 +1,9 @@
 -- Lists of routines: "the playing order of listed routines" (the paper's actual), "the routines to start in order" (to_start).
 use Prim.Native.Nat.{ℕ, _+_}
 use mathlib.Core.Bool.{Bool}
+use mathlib.Core.List.{List, [], _∷_}
 use lib.Dec.{ltb, eqb}
-use lib.ListN.{getD, set, replicate}
+use lib.ListN.{getD, set, take, replicate}
 use Rattle.numbers.specs.Choice.{if_then_else_}
 use Rattle.game.specs.declared.Line.{Line}
 use Rattle.game.specs.Below.{anyBelow}
@@ -30,3 +31,12 @@ isIn l r = anyBelow (usedOf l) (λ i. eqb (itemAt l i) r)
 -- routine r at a list's end; a full list takes no more
 abbrev pub pushed : Line → ℕ → Line
 pushed l r = if ltb (l .len) mostEntries then record { items = set (l .items) (l .len) r; len = l .len + 1 } else l
+
+-- the routines in a list, in order
+abbrev pub entriesOf : Line → List ℕ
+entriesOf l = take (usedOf l) (l .items)
+
+-- a list with these routines at its end, as far as it has room
+unfoldable pub appended : Line → List ℕ → Line
+appended l [] = l
+appended l (r ∷ rs) = appended (pushed l r) rs

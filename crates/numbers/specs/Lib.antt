@@ -1,2 +1,4 @@
 pub mod Choice
 pub mod Numbers
+pub mod Relations
+pub mod Sums

@@ -2,10 +2,11 @@
 use Prim.Native.Nat.{ℕ, _+_, _*_, _-_}
 use mathlib.Core.Bool.{Bool, _&&_}
 use mathlib.Core.List.{List}
-use lib.Dec.{ltb}
+use lib.Dec.{ltb, eqb}
 use lib.ListN.{getD}
-use lib.IntN.{ℤ, pos, negsuc}
-use lib.Signed.{leZ}
+use lib.IntN.{ℤ, pos, negsuc, _+ℤ_}
+use lib.Signed.{leZ, ltZ}
+use Rattle.numbers.specs.declared.Sum.{Sum}
 use Rattle.numbers.specs.Choice.{if_then_else_}
 
 -- how many numbers 16 bits hold
@@ -46,6 +47,19 @@ highestCounter = pos 1000000
 
 abbrev pub isWithin : ℤ → ℤ → ℤ → Bool
 isWithin n low high = leZ low n && leZ n high
+
+-- "An addition beyond an end gives that end."
+abbrev pub sumOf : ℤ → ℤ → Sum
+sumOf v n =
+    let sum = v +ℤ n in
+    record { sum = if ltZ highestCounter sum then highestCounter else if ltZ sum lowestCounter then lowestCounter else sum }
+
+-- a counter's content v against n, by "relation (0 equal, 1 less, 2 greater)": 1 where it holds, and 0
+abbrev pub relationOf : ℕ → ℤ → ℤ → ℕ
+relationOf relation v n =
+    if eqb relation 0 then (if leZ v n && leZ n v then 1 else 0)
+    else if eqb relation 1 then (if ltZ v n then 1 else 0)
+    else (if ltZ n v then 1 else 0)
 
 -- a count of n: none where n is 0 or less
 abbrev pub countOf : ℤ → ℕ

@@ -13,6 +13,11 @@ pub const LOWEST_COUNTER: i32 = -1000000;
 
 pub const HIGHEST_COUNTER: i32 = 1000000;
 
+// What an addition to a counter gives.
+pub struct Sum {
+    pub sum: i32,
+}
+
 // A number of 16 bits, from its low and its high byte.
 pub fn half(low: u8, high: u8) -> usize
     ensures { λ r. ⌜ (r ≡ halfOf low high) × (r < halfLimit) ⌝ }

@@ -1,14 +1,14 @@
 -- What an order is told is told for the reason that document 01 gives, and nothing else is.
--- A reason settles each check up to its own, so it is enough to find one.
+-- A reason settles each check up to its own, so it is enough to find one. The checks that a round shares with an order come first.
 use Prim.Native.Nat.{ℕ, zero, suc, _<_}
-use mathlib.Core.Path.{_≡_, refl}
+use mathlib.Core.Path.{_≡_, refl, _∙_}
 use mathlib.Core.Bool.{true, Bool-discrete}
 use mathlib.Core.List.{List}
 use native.Mathlib.Omega.{arith}
-use native.Mathlib.Decide.{ℕ-discrete, decLt}
+use native.Mathlib.Decide.{decLt}
 use borrow.Author.Tests.{lt-ltb, le-ltb}
 use Rattle.book.specs.declared.Verdict.{Verdict}
-use Rattle.book.specs.Verdicts.{refused}
+use Rattle.book.specs.Verdicts.{refused, _orElse_}
 use Rattle.book.specs.Book.{countsOf, bookVerdict}
 use Rattle.book.specs.Accepted.{Accepted}
 use Rattle.book.specs.Tells.{Tells}
@@ -19,44 +19,50 @@ use Rattle.game.specs.Fitting.{fitsBook}
 use Rattle.game.specs.Fits.{Fits}
 use Rattle.game.proofs.Below.{not-true-false}
 use Rattle.game.proofs.Decides.{fits-decides}
-use Rattle.orders.specs.Orders.{orderCount, orderVerdict}
+use Rattle.orders.specs.Orders.{orderCount, fitVerdict, orderVerdict}
 use Rattle.orders.specs.Tells.{OrderTells}
+
+-- what an order and a round check first: "1 to 7, then 9"
+module _ (s : List ℕ) (g : Game) where
+  pub unfit-told : (w : Verdict) → Accepted s → (Fits s g → ⊥) → (bookVerdict s orElse fitVerdict s g orElse w) ≡ refused 9 0
+  unfit-told w a m =
+      let unfit = not-true-false (fitsBook s g) (λ e. m (fits-decides s (a .laid .counts) g .0 e)) in
+      rw (told-only s (Tells.nothing a), unfit)
+
+  pub past-fit : (w : Verdict) → Accepted s → Fits s g → (bookVerdict s orElse fitVerdict s g orElse w) ≡ w
+  past-fit w a f = rw (told-only s (Tells.nothing a), fits-decides s (a .laid .counts) g .1 f)
+
+  -- a claim follows if it does from a refusal of the book, from a game that does not fit it, and from one that does
+  by-book : {P : Type 0} {k p : ℕ} → (k ≡ 0 → Accepted s) → Tells s k p → ((j : ℕ) → Tells s (suc j) p → P) → (Accepted s → P) → P
+  by-book {k = zero} accepts t refusal acceptance = acceptance (accepts refl)
+  by-book {k = suc k} accepts t refusal acceptance = refusal k t
+
+  pub by-fit :
+      {P : Type 0} → ((k p : ℕ) → Tells s (suc k) p → P) → (Accepted s → (Fits s g → ⊥) → P) → (Accepted s → Fits s g → P) → P
+  by-fit refusal unfit fits =
+      by-book (number-accepted s) (tells s) (λ k t. refusal k _ t) (λ a.
+      let fitting = fits-decides s (a .laid .counts) g in
+      elim (Bool-discrete (fitsBook s g) true) [ yes f ↦ fits a (fitting .0 f) | no h ↦ unfit a (λ f. h (fitting .1 f)) ])
 
 pub order-told-only : {s : List ℕ} {g : Game} {kind n : ℕ} {v : Verdict} → OrderTells s g kind n v → orderVerdict s g kind n ≡ v
 unfolding orderVerdict
 order-told-only {s} (OrderTells.book t) = orElse-told _ _ (told-only s t)
-order-told-only {s} {g} (OrderTells.unfit a m) =
-    let unfit = not-true-false (fitsBook s g) (λ e. m (fits-decides s (a .laid .counts) g .0 e)) in
-    rw (told-only s (Tells.nothing a), unfit)
-order-told-only {s} {g} {n = n} (OrderTells.unknown a f h) =
-    rw (told-only s (Tells.nothing a), fits-decides s (a .laid .counts) g .1 f, le-ltb n _ h)
-order-told-only {s} {g} {n = n} (OrderTells.nothing a f h) =
-    rw (told-only s (Tells.nothing a), fits-decides s (a .laid .counts) g .1 f, lt-ltb n _ h)
+order-told-only {s} {g} (OrderTells.unfit a m) = unfit-told s g _ a m
+order-told-only {s} {g} {n = n} (OrderTells.unknown a f h) = past-fit s g _ a f ∙ rw (le-ltb n _ h)
+order-told-only {s} {g} {n = n} (OrderTells.nothing a f h) = past-fit s g _ a f ∙ rw (lt-ltb n _ h)
 
 module _ (s : List ℕ) (g : Game) (kind n : ℕ) where
-  book-refuses : (k p : ℕ) → (k ≡ 0 → ⊥) → Tells s k p → OrderTells s g kind n (refused k p)
-  book-refuses zero p h t = absurd (h refl)
-  book-refuses (suc k) p h t = OrderTells.book t
-
   told : {v : Verdict} → OrderTells s g kind n v → OrderTells s g kind n (orderVerdict s g kind n)
   told t = rw (order-told-only t) t
 
   pub order-tells : OrderTells s g kind n (orderVerdict s g kind n)
   order-tells =
-      elim (ℕ-discrete (bookVerdict s .number) 0) [
-        | yes e ↦
-            let a = number-accepted s e in
-            let fitting = fits-decides s (a .laid .counts) g in
-            elim (Bool-discrete (fitsBook s g) true) [
-              | yes f ↦
-                  elim (decLt n (orderCount (countsOf s) kind)) [
-                    | yes h ↦ told (OrderTells.nothing a (fitting .0 f) h)
-                    | no h ↦ told (OrderTells.unknown a (fitting .0 f) (omega arith))
-                  ]
-              | no h ↦ told (OrderTells.unfit a (λ f. h (fitting .1 f)))
-            ]
-        | no h ↦ told (book-refuses (bookVerdict s .number) (bookVerdict s .place) h (tells s))
+      by-fit s g (λ k p t. told (OrderTells.book t)) (λ a m. told (OrderTells.unfit a m)) (λ a f.
+      elim (decLt n (orderCount (countsOf s) kind)) [
+        | yes h ↦ told (OrderTells.nothing a f h)
+        | no h ↦ told (OrderTells.unknown a f (omega arith))
       ]
+      )
 
 -- what an accepted order is accepted for
 abbrev pub Right : List ℕ → Game → ℕ → ℕ → Type 0
