@@ -1,0 +1,149 @@
+-- What the form that stands at a place of a routine says of the step there, that a step's op is its kind's, and that a start names a
+-- routine of the book. A step that stands is one of the kinds, and a kind is told by its form; the table has the ops, row by row, and the
+-- routine of a start is its row's a.
+use Prim.Native.Nat.{ℕ, _≤_, _<_}
+use mathlib.Core.Path.{_≡_, refl, ap, _∙_}
+use mathlib.Core.Bool.{Bool, true, false}
+use mathlib.Core.List.{List}
+use mathlib.Core.Logic.{_⊎_, inl, inr}
+use native.Mathlib.Omega.{arith}
+use lib.Dec.{eqb}
+use lib.IntN.{ℤ}
+use Rattle.numbers.specs.Choice.{if_then_else_}
+use Rattle.kinds.specs.declared.Kind.{Kind}
+use Rattle.kinds.specs.declared.Kind.the-variants.{Mark, Set, Add, Take, Signal, SignalNumber, Rest, RestFor, Wait, WaitFor}
+use Rattle.kinds.specs.declared.Kind.the-variants.{Join, JoinFor, Read, Start, Stop, Suspend, Resume, If, Else, While, End}
+use Rattle.kinds.specs.declared.Step.the-variants as step
+use Rattle.kinds.specs.declared.Counts.{Counts}
+use Rattle.kinds.specs.declared.Row.{Row}
+use Rattle.kinds.specs.declared.Form.{Form}
+use Rattle.kinds.specs.declared.Form.the-variants.{Plain, Pausing, IfOpening, ElseMarker, WhileOpening, EndMarker}
+use Rattle.kinds.specs.Steps.{table, rowOf, opAt, fieldA, fieldB, fieldN, stepAt}
+use Rattle.kinds.specs.Forms.{formOf}
+use Rattle.kinds.proofs.Readable.{step-missing, step-readable}
+use Rattle.blocks.specs.Blocks.{View, stands, viewAt}
+use Rattle.blocks.proofs.Scan.{Rows, _and_, step-holds, row-kind, kind-there}
+use Rattle.round.specs.Jumps.{sizeOf}
+
+-- what a kind of a form is
+abbrev Formed : Form → Kind → Type 0
+Formed Plain k = formOf k ≡ Plain
+Formed Pausing k = formOf k ≡ Pausing
+Formed IfOpening k = (c : ℕ) × (relation : ℕ) × (n : ℤ) × (k ≡ If c relation n)
+Formed ElseMarker k = k ≡ Else
+Formed WhileOpening k = (c : ℕ) × (relation : ℕ) × (n : ℤ) × (k ≡ While c relation n)
+Formed EndMarker k = k ≡ End
+
+rest-formed : (t : Bool) (k : Kind) → formOf k ≡ (if t then Plain else Pausing) → Formed (if t then Plain else Pausing) k
+rest-formed true k h = h
+rest-formed false k h = h
+
+formed : (k : Kind) → Formed (formOf k) k
+formed (Mark n) = refl
+formed (Set c n) = refl
+formed (Add c n) = refl
+formed (Take c d) = refl
+formed (Signal e) = refl
+formed (SignalNumber e c) = refl
+formed Rest = refl
+formed (RestFor n) = rest-formed (eqb n 0) (RestFor n) refl
+formed (Wait e) = refl
+formed (WaitFor e n) = refl
+formed (Join t) = refl
+formed (JoinFor t n) = refl
+formed (Read e c n) = refl
+formed (Start t) = refl
+formed (Stop t) = refl
+formed (Suspend t) = refl
+formed (Resume t) = refl
+formed (If c relation n) = (c, relation, n, refl)
+formed Else = refl
+formed (While c relation n) = (c, relation, n, refl)
+formed End = refl
+
+-- the op of each kind
+abbrev pub opOf : Kind → ℕ
+opOf (Mark n) = 0
+opOf (Set c n) = 1
+opOf (Add c n) = 2
+opOf (Take c d) = 3
+opOf (Signal e) = 4
+opOf (SignalNumber e c) = 5
+opOf Rest = 6
+opOf (RestFor n) = 7
+opOf (Wait e) = 8
+opOf (WaitFor e n) = 9
+opOf (Join t) = 10
+opOf (JoinFor t n) = 11
+opOf (Read e c n) = 12
+opOf (Start t) = 13
+opOf (Stop t) = 14
+opOf (Suspend t) = 15
+opOf (Resume t) = 16
+opOf (If c relation n) = 17
+opOf Else = 18
+opOf (While c relation n) = 19
+opOf End = 20
+
+-- each row of the table has a kind of its own op
+abbrev OwnKind : ℕ → Row → Type 0
+OwnKind op r = op ≡ opOf (r .4)
+
+own-kinds : (counts : Counts) (a b : ℕ) (n : ℤ) → Rows OwnKind 0 (table counts a b n)
+own-kinds counts a b n =
+    refl and refl and refl and refl and refl and refl and refl and refl and refl and refl and refl and refl and refl and refl and refl
+    and refl and refl and refl and refl and refl and refl and tt
+
+-- the routine that a start names is its a
+start-named :
+    (counts : Counts) (op a b : ℕ) (n : ℤ) {t : ℕ} →
+    op ≡ opOf (Start t) → rowOf counts op a b n .4 ≡ Start t → a < rowOf counts op a b n .0 → t < counts .routines
+unfolding rowOf
+start-named counts op a b n {t} e k h =
+    let start : rowOf counts (opOf (Start t)) a b n .4 ≡ Start t = rw e at k in
+    let named : a ≡ t = cc in
+    let below : a < counts .routines = rw e at h in
+    omega arith
+
+module _ (counts : Counts) (steps : List ℕ) where
+  abbrev at : ℕ → View
+  at = viewAt counts steps (sizeOf steps)
+
+  form-there : (p : ℕ) {f : Form} → at p ≡ stands f → (k : Kind) × (stepAt counts steps p ≡ step.Kind k) × Formed f k
+  form-there p h = let (k, e, g) = kind-there counts steps (sizeOf steps) p h in (k, e, rw g at (formed k))
+
+  -- a step that holds no block and is no marker
+  pub leaf-there :
+      (p : ℕ) → (at p ≡ stands Plain) ⊎ (at p ≡ stands Pausing) →
+      (k : Kind) × (stepAt counts steps p ≡ step.Kind k) × ((formOf k ≡ Plain) ⊎ (formOf k ≡ Pausing))
+  leaf-there p (inl h) = let (k, e, g) = form-there p h in (k, e, inl g)
+  leaf-there p (inr h) = let (k, e, g) = form-there p h in (k, e, inr g)
+
+  pub if-there :
+      (p : ℕ) → at p ≡ stands IfOpening → (c : ℕ) × (relation : ℕ) × (n : ℤ) × (stepAt counts steps p ≡ step.Kind (If c relation n))
+  if-there p h = let (k, e, (c, relation, n, g)) = form-there p h in (c, relation, n, e ∙ ap step.Kind g)
+
+  pub while-there :
+      (p : ℕ) → at p ≡ stands WhileOpening → (c : ℕ) × (relation : ℕ) × (n : ℤ) × (stepAt counts steps p ≡ step.Kind (While c relation n))
+  while-there p h = let (k, e, (c, relation, n, g)) = form-there p h in (c, relation, n, e ∙ ap step.Kind g)
+
+  pub else-there : (p : ℕ) → at p ≡ stands ElseMarker → stepAt counts steps p ≡ step.Kind Else
+  else-there p h = let (k, e, g) = form-there p h in e ∙ ap step.Kind g
+
+  pub end-there : (p : ℕ) → at p ≡ stands EndMarker → stepAt counts steps p ≡ step.Kind End
+  end-there p h = let (k, e, g) = form-there p h in e ∙ ap step.Kind g
+
+  pub none-there : (p : ℕ) → sizeOf steps ≤ p → stepAt counts steps p ≡ step.Refused
+  none-there p h = step-missing counts steps p h
+
+  -- a step's op is its kind's
+  pub step-op : (p : ℕ) {k : Kind} → stepAt counts steps p ≡ step.Kind k → opAt steps p ≡ opOf k
+  step-op p e =
+      step-holds OwnKind counts steps p (own-kinds counts (fieldA steps p) (fieldB steps p) (fieldN steps p)) e
+      ∙ ap opOf (row-kind counts steps p e)
+
+  -- the routine that a start names is one of the book's
+  pub start-below : (p : ℕ) {t : ℕ} → stepAt counts steps p ≡ step.Kind (Start t) → t < counts .routines
+  start-below p e =
+      start-named counts (opAt steps p) (fieldA steps p) (fieldB steps p) (fieldN steps p) (step-op p e) (row-kind counts steps p e)
+      (step-readable counts steps p e .aFits)

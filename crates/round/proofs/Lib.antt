@@ -1,0 +1,5 @@
+pub mod Forms
+pub mod Jumps
+pub mod Marks
+pub mod Telling
+pub mod Timed

@@ -1,0 +1,76 @@
+-- What a round is told is told for the reason that document 01 gives, and nothing else is; with what it hands back either way.
+-- A reason settles each check up to its own, so it is enough to find one; the book and the game are checked as an order checks them.
+use Prim.Native.Nat.{ℕ, _≤_}
+use mathlib.Core.Path.{_≡_, refl, ap, _∙_}
+use mathlib.Core.Bool.{Bool, true, false}
+use mathlib.Core.List.{List}
+use native.Mathlib.Omega.{arith}
+use native.Mathlib.Decide.{ℕ-discrete, decLt}
+use borrow.Author.Tests.{eq-eqb, ne-eqb, le-leb, lt-leb}
+use lib.ListN.{length}
+use lib.IntN.{ℤ}
+use Rattle.book.specs.declared.Verdict.{Verdict}
+use Rattle.book.specs.Accepted.{Accepted}
+use Rattle.book.proofs.First.{orElse-told}
+use Rattle.book.proofs.Telling.{told-only}
+use Rattle.game.specs.declared.Game.{Game}
+use Rattle.game.specs.Fits.{Fits}
+use Rattle.orders.proofs.Telling.{unfit-told, past-fit, by-fit}
+use Rattle.round.specs.Rounds.{round}
+use Rattle.round.specs.Answers.{spaceFor, roundVerdict, Answer, turnedDown, playedOut, answer}
+use Rattle.round.specs.Tells.{RoundTells}
+
+pub round-told-only : {s : List ℕ} {g : Game} {buffer : List ℤ} {v : Verdict} → RoundTells s g buffer v → roundVerdict s g buffer ≡ v
+unfolding roundVerdict
+round-told-only {s} (RoundTells.book t) = orElse-told _ _ (told-only s t)
+round-told-only {s} {g} (RoundTells.unfit a m) = unfit-told s g _ a m
+round-told-only {s} {g} (RoundTells.short a f h) = past-fit s g _ a f ∙ rw (lt-leb _ _ h)
+round-told-only {s} {g} (RoundTells.tooMany a f h e) = past-fit s g _ a f ∙ rw (le-leb _ _ h, e)
+round-told-only {s} {g} (RoundTells.nothing a f h e) = past-fit s g _ a f ∙ rw (le-leb _ _ h, e)
+
+module _ (s : List ℕ) (g : Game) (buffer : List ℤ) where
+  told : {v : Verdict} → RoundTells s g buffer v → RoundTells s g buffer (roundVerdict s g buffer)
+  told t = rw (round-told-only t) t
+
+  by-numbers :
+      Accepted s → Fits s g → spaceFor s ≤ length buffer → (t : Bool) → round s g .played .state .tooMany ≡ t →
+      RoundTells s g buffer (roundVerdict s g buffer)
+  by-numbers a f h true e = told (RoundTells.tooMany a f h e)
+  by-numbers a f h false e = told (RoundTells.nothing a f h e)
+
+  pub round-tells : RoundTells s g buffer (roundVerdict s g buffer)
+  round-tells =
+      by-fit s g (λ k p t. told (RoundTells.book t)) (λ a m. told (RoundTells.unfit a m)) (λ a f.
+      elim (decLt (length buffer) (spaceFor s)) [
+        | yes h ↦ told (RoundTells.short a f h)
+        | no h ↦ by-numbers a f (omega arith) _ refl
+      ]
+      )
+
+  -- "After a refusal game and mark buffer are as lent"
+  pub turned-down : (roundVerdict s g buffer .number ≡ 0 → ⊥) → answer s g buffer ≡ turnedDown (roundVerdict s g buffer) g buffer
+  unfolding answer
+  turned-down h = rw (ne-eqb _ 0 h)
+
+  -- "An accepted round gives the game, the passes, the count of marks, and the marks"
+  pub played-out : roundVerdict s g buffer .number ≡ 0 → answer s g buffer ≡ playedOut (roundVerdict s g buffer) (round s g) buffer
+  unfolding answer
+  played-out h = rw (eq-eqb _ 0 h)
+
+  -- either way the answer tells the verdict
+  pub answer-verdict : answer s g buffer .verdict ≡ roundVerdict s g buffer
+  answer-verdict = elim (ℕ-discrete (roundVerdict s g buffer .number) 0) [
+    | yes h ↦ ap (λ (a : Answer). a .verdict) (played-out h)
+    | no h ↦ ap (λ (a : Answer). a .verdict) (turned-down h)
+  ]
+
+-- what an accepted round is accepted for
+abbrev pub Playable : List ℕ → Game → List ℤ → Type 0
+Playable s g buffer = Accepted s × Fits s g × (spaceFor s ≤ length buffer) × (round s g .played .state .tooMany ≡ false)
+
+pub told-playable : {s : List ℕ} {g : Game} {buffer : List ℤ} {v : Verdict} → RoundTells s g buffer v → v .number ≡ 0 → Playable s g buffer
+told-playable (RoundTells.book t) e = absurd (omega arith)
+told-playable (RoundTells.unfit a m) e = absurd (omega arith)
+told-playable (RoundTells.short a f h) e = absurd (omega arith)
+told-playable (RoundTells.tooMany a f h m) e = absurd (omega arith)
+told-playable (RoundTells.nothing a f h m) e = (a, f, h, m)

@@ -1,0 +1,87 @@
+-- What playing a round answers: document 01, "Turned down because of the input" and "Turned down because of the state".
+use Prim.Native.Nat.{ℕ, zero, suc, _+_, _*_}
+use mathlib.Core.Bool.{not}
+use mathlib.Core.List.{List, [], _∷_, _++_}
+use lib.Dec.{eqb, leb}
+use lib.ListN.{length, drop}
+use lib.IntN.{ℤ, pos}
+use Rattle.numbers.specs.Choice.{if_then_else_}
+use Rattle.kinds.specs.Steps.{opAt}
+use Rattle.book.specs.declared.Verdict.{Verdict}
+use Rattle.book.specs.Verdicts.{refused, _orElse_, unless}
+use Rattle.book.specs.Layout.{stepsOf}
+use Rattle.book.specs.Book.{stepsPart, bookVerdict}
+use Rattle.game.specs.declared.Game.{Game}
+use Rattle.orders.specs.Orders.{fitVerdict}
+use Rattle.round.specs.State.{Happening, gave, ended, missing, past, marked}
+use Rattle.round.specs.Rounds.{Round, round}
+
+-- "0 mark"
+abbrev pub opMark : ℕ
+opMark = 0
+
+-- how many of the first n steps of a part of the book are mark steps
+unfoldable pub markSteps : List ℕ → ℕ → ℕ
+markSteps steps zero = 0
+markSteps steps (suc n) = markSteps steps n + (if eqb (opAt steps n) opMark then 1 else 0)
+
+-- the marks among what happened, each a routine and a number, "in the order made"
+unfoldable pub marksIn : List Happening → List (ℕ × ℤ)
+marksIn [] = []
+marksIn (gave e k ∷ told) = marksIn told
+marksIn (ended r ∷ told) = marksIn told
+marksIn (missing r p t ∷ told) = marksIn told
+marksIn (past r p t ∷ told) = marksIn told
+marksIn (marked r n ∷ told) = (r, n) ∷ marksIn told
+
+-- "signed 32-bit numbers, two to a mark"
+abbrev pub numbersPerMark : ℕ
+numbersPerMark = 2
+
+unfoldable pub written : List (ℕ × ℤ) → List ℤ
+written [] = []
+written (m ∷ ms) = pos (m .0) ∷ m .1 ∷ written ms
+
+-- 10. "The mark buffer .. is shorter than twice the book's mark steps."
+abbrev pub spaceFor : List ℕ → ℕ
+spaceFor book = numbersPerMark * markSteps (stepsPart book) (stepsOf book)
+
+abbrev pub spaceVerdict : List ℕ → List ℤ → Verdict
+spaceVerdict book buffer = unless (leb (spaceFor book) (length buffer)) (refused 10 0)
+
+-- 11, once the round is played
+abbrev pub numbersVerdict : Round → Verdict
+numbersVerdict p = unless (not (p .played .state .tooMany)) (refused 11 0)
+
+-- "a round checks 1 to 7, then 9, 10, 11"
+unfoldable pub roundVerdict : List ℕ → Game → List ℤ → Verdict
+roundVerdict book g buffer = bookVerdict book orElse fitVerdict book g orElse spaceVerdict book buffer orElse numbersVerdict (round book g)
+
+pub record Answer : Type 0 where
+  pub verdict : Verdict
+  pub game : Game
+  pub passes : ℕ
+  pub marks : ℕ
+  pub buffer : List ℤ
+
+-- "After a refusal game and mark buffer are as lent, and passes and count of marks are 0."
+abbrev pub turnedDown : Verdict → Game → List ℤ → Answer
+turnedDown v g buffer = record { verdict = v; game = g; passes = 0; marks = 0; buffer = buffer }
+
+-- "An accepted round gives the game, the passes, the count of marks, and the marks in the order made; the buffer beyond the marks is
+-- untouched."
+abbrev pub playedOut : Verdict → Round → List ℤ → Answer
+playedOut v p buffer =
+    let marks = marksIn (p .played .told) in
+    record {
+      verdict = v;
+      game = p .played .state .game;
+      passes = p .passes;
+      marks = length marks;
+      buffer = written marks ++ drop (numbersPerMark * length marks) buffer;
+    }
+
+unfoldable pub answer : List ℕ → Game → List ℤ → Answer
+answer book g buffer =
+    let v = roundVerdict book g buffer in
+    if eqb (v .number) 0 then playedOut v (round book g) buffer else turnedDown v g buffer

@@ -1,0 +1,44 @@
+-- That the steps which a turn may take, and the passes which a round may take, are enough: a hypothesis of what is shown of rounds in
+-- crates/rules, until the theory of rounds shows it for every accepted book and every game that fits.
+use Prim.Native.Nat.{ℕ, zero, suc, _<_}
+use mathlib.Core.Path.{_≡_}
+use mathlib.Core.Bool.{true, false}
+use mathlib.Core.List.{List}
+use mathlib.Core.Logic.{_⊎_}
+use Rattle.kinds.specs.declared.Counts.{Counts}
+use Rattle.book.specs.Layout.{routinesOf}
+use Rattle.book.specs.Book.{countsOf, routineSteps}
+use Rattle.game.specs.declared.Game.{Game}
+use Rattle.game.specs.Lines.{entriesOf}
+use Rattle.round.specs.declared.Position.{Position}
+use Rattle.round.specs.declared.Act.{Act}
+use Rattle.round.specs.declared.Act.the-variants.{Goes, Halts}
+use Rattle.round.specs.State.{State}
+use Rattle.round.specs.Actions.{atStart}
+use Rattle.round.specs.Ticks.{tick, fresh, effectOn}
+use Rattle.round.specs.Rounds.{mostTicks, allDone, again, mostPasses, pass}
+
+-- what is asked of the position and the state behind a step, if the turn goes on
+abbrev pub IfItGoesOn : Act → State → (Position → State → Type 0) → Type 0
+IfItGoesOn (Goes p e) s claim = claim (fresh p) (effectOn e s)
+IfItGoesOn (Halts how y) s claim = Unit {0}
+
+-- n steps are enough for a turn of routine r from position x in state s
+unfoldable pub InTime : ℕ → Counts → ℕ → List ℕ → Position → State → Type 0
+InTime zero counts r steps x s = ⊥
+InTime (suc n) counts r steps x s = IfItGoesOn (tick counts r steps x s .act) s (λ y u. InTime n counts r steps y u)
+
+module _ (book : List ℕ) where
+  -- n passes over some routines are enough from state s on
+  unfoldable pub RoundEnds : ℕ → List ℕ → State → Type 0
+  RoundEnds zero rs s = ⊥
+  RoundEnds (suc n) rs s =
+      let first = pass book rs s in
+      (allDone (first .turns) ≡ true) ⊎ ((allDone (first .turns) ≡ false) × RoundEnds n rs (again (first .state)))
+
+  -- the numbers of the definitions are enough, for every turn and for the round from game g
+  pub record Enough (g : Game) : Type 0 where
+    pub turns :
+        (r : ℕ) → r < routinesOf book → (x : Position) (s : State) →
+        InTime (mostTicks (routineSteps book r)) (countsOf book) r (routineSteps book r) x s
+    pub passes : RoundEnds mostPasses (entriesOf (atStart g .game .listed)) (atStart g)

@@ -1,0 +1,63 @@
+-- What a round of T3's book is told, by evaluation: the order of the refusals, what they hand back, and the buffer beyond the marks.
+use Prim.Native.Nat.{ℕ}
+use mathlib.Core.Path.{_≡_, refl}
+use mathlib.Core.List.{List, [], _∷_, map}
+use lib.IntN.{ℤ, pos}
+use Rattle.kinds.specs.Steps.{rowOf, decoded, stepAt}
+use Rattle.blocks.specs.Blocks.{viewAt, blockBy, stepOf, routineOf, partnerOf}
+use Rattle.book.specs.Verdicts.{refused, firstRefusal}
+use Rattle.book.specs.Layout.{layoutVerdict, stepsBefore, directoryVerdict}
+use Rattle.book.specs.Book.{countsOf, stepsVerdict, routinePart, routineWalk, nestingVerdict, pausingVerdict, bookVerdict}
+use Rattle.book.specs.Examples.{t3}
+use Rattle.game.specs.declared.Game.{Game}
+use Rattle.game.specs.Below.{allBelow, anyBelow}
+use Rattle.game.specs.Lines.{isIn, appended}
+use Rattle.game.specs.Game.{blankGame, withStart}
+use Rattle.game.specs.Fitting.{routineFits, slotFits, entryFits, lineFits, countersFit, signalsFit, fitsBook}
+use Rattle.orders.specs.SetUp.{newGame}
+use Rattle.round.specs.State.{numbersWith, isEndThere, isThere}
+use Rattle.round.specs.Actions.{kept, each, atStart}
+use Rattle.round.specs.Jumps.{pastPartner, openingBefore, fromEnd}
+use Rattle.round.specs.Ticks.{waitsFor, tickOf, tick, effectOn}
+use Rattle.round.specs.Rounds.{ticks, allDone, turn, pass, instant, round}
+use Rattle.round.specs.Answers.{markSteps, marksIn, written, roundVerdict, Answer, answer}
+
+-- the game of T3 before its second round, in which it leaves its mark
+abbrev pub afterOne : Game
+afterOne = answer t3 (newGame (countsOf t3)) (pos 0 ∷ pos 0 ∷ []) .game
+
+pub record Example : Type 0 where
+  pub book : List ℕ
+  pub game : Game
+  pub buffer : List ℤ
+  pub tells : Answer
+
+-- a call that is turned down, and told this
+abbrev pub isTold : List ℕ → Game → List ℤ → ℕ → Example
+isTold book g buffer number =
+    record {
+      book = book;
+      game = g;
+      buffer = buffer;
+      tells = record { verdict = refused number 0; game = g; passes = 0; marks = 0; buffer = buffer };
+    }
+
+-- no book at all comes before everything, a game that does not fit before a short buffer, and one mark step asks for two numbers
+abbrev pub examples : List Example
+examples =
+    isTold [] blankGame [] 1
+    ∷ isTold t3 blankGame [] 9
+    ∷ isTold t3 (newGame (countsOf t3)) [] 10
+    ∷ isTold t3 (newGame (countsOf t3)) (pos 5 ∷ []) 10
+    ∷ []
+
+-- and in an accepted round the mark (0, 7) stands at the buffer's start, and what is beyond it stays
+pub as-told :
+    (map (λ e. answer (e .book) (e .game) (e .buffer)) examples ≡ map (λ e. e .tells) examples)
+    × (answer t3 afterOne (pos 5 ∷ pos 6 ∷ pos 8 ∷ []) .buffer ≡ pos 0 ∷ pos 7 ∷ pos 8 ∷ [])
+unfolding answer roundVerdict written marksIn markSteps round instant pass turn allDone ticks effectOn tick tickOf waitsFor fromEnd
+    openingBefore pastPartner atStart each kept appended isThere isEndThere numbersWith newGame blankGame withStart fitsBook routineFits slotFits
+    entryFits lineFits countersFit signalsFit isIn allBelow anyBelow bookVerdict layoutVerdict directoryVerdict stepsVerdict
+    nestingVerdict pausingVerdict routineWalk routinePart routineOf stepOf blockBy partnerOf viewAt stepAt decoded rowOf stepsBefore
+    firstRefusal
+as-told = (refl, refl)

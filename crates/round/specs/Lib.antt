@@ -1,0 +1,10 @@
+pub mod State
+pub mod Actions
+pub mod Jumps
+pub mod Ticks
+pub mod Rounds
+pub mod Answers
+pub mod Tells
+pub mod SetPlays
+pub mod Examples
+pub mod Enough

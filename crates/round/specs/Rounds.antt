@@ -1,0 +1,147 @@
+-- A turn, a pass and a round: rules 33 to 38. Document 01: "round = one chaining step and then one instant, pass = one scheduler execution
+-- step (rules 35 and 36)".
+use Prim.Native.Nat.{ℕ, zero, suc, _+_}
+use mathlib.Core.Bool.{Bool, true, false, _&&_, _||_, not}
+use mathlib.Core.List.{List, [], _∷_, _++_}
+use lib.Dec.{eqb}
+use lib.ListN.{set}
+use Rattle.numbers.specs.Choice.{if_then_else_}
+use Rattle.kinds.specs.declared.Counts.{Counts}
+use Rattle.book.specs.Layout.{mostRoutines, mostSteps}
+use Rattle.book.specs.Book.{countsOf, routineSteps}
+use Rattle.game.specs.declared.Game.{Game}
+use Rattle.game.specs.Lines.{entriesOf}
+use Rattle.game.specs.Game.{continuing, rested, ended, routineAt, withRoutine}
+use Rattle.round.specs.declared.Ending.{Ending}
+use Rattle.round.specs.declared.Ending.the-variants.{Ended, Rested, Missed, Continued}
+use Rattle.round.specs.declared.Position.{Position}
+use Rattle.round.specs.declared.Act.{Act}
+use Rattle.round.specs.declared.Act.the-variants.{Goes, Halts}
+use Rattle.round.specs.State.{State, withGame, withEndSignals, withMoves, Happening}
+use Rattle.round.specs.Actions.{positionOf, placed, atStart}
+use Rattle.round.specs.Jumps.{sizeOf}
+use Rattle.round.specs.Ticks.{tick, fresh, effectOn}
+
+-- the steps that a routine takes in a turn: how they end, where they leave it, the state behind them, and what happened
+pub record Ticks : Type 0 where
+  pub ending : Ending
+  pub position : Position
+  pub state : State
+  pub told : List Happening
+
+-- behind one step, in which this happened: the next ones (rule 3), or the end of the turn (rule 4)
+abbrev pub follow : Act → List Happening → State → (ℕ → State → Ticks) → Ticks
+follow (Goes p e) told s next =
+    let rest = next p (effectOn e s) in
+    record { ending = rest .ending; position = rest .position; state = rest .state; told = told ++ rest .told }
+follow (Halts how x) told s next = record { ending = how; position = x; state = s; told = told }
+
+-- the steps of routine r from position x on, at most n of them; begun is "cleared when that step is past"
+unfoldable pub ticks : ℕ → Counts → ℕ → List ℕ → Position → State → Ticks
+ticks zero counts r steps x s = record { ending = Continued; position = x; state = s; told = [] }
+ticks (suc n) counts r steps x s =
+    let t = tick counts r steps x s in
+    follow (t .act) (t .told) s (λ p u. ticks n counts r steps (fresh p) u)
+
+-- the ticks that a turn may take, one for each step and one more; that they are enough is Enough.antt's claim
+abbrev pub mostTicks : List ℕ → ℕ
+mostTicks steps = sizeOf steps + 1
+
+-- the stage in which a turn leaves its routine: the status of rule 34
+abbrev pub stageAfter : Ending → ℕ
+stageAfter Ended = ended
+stageAfter Rested = rested
+stageAfter Missed = rested
+stageAfter Continued = continuing
+
+-- rule 34: a routine's end gives its end signal and sets the flag; no other ending does
+abbrev pub withEnd : Ending → ℕ → State → State
+withEnd Ended r s = withMoves (withEndSignals s (set (s .endSignals) r true)) true (s .eoi)
+withEnd Rested r s = s
+withEnd Missed r s = s
+withEnd Continued r s = s
+
+-- the state behind a turn of routine r
+abbrev pub afterTurn : ℕ → Ticks → State
+afterTurn r t =
+    let g = t .state .game in
+    withEnd (t .ending) r (withGame (t .state) (withRoutine g r (placed (routineAt g r) (stageAfter (t .ending)) (t .position))))
+
+-- what a pass does with one listed routine
+pub data Turn : Type 0 where
+  passedOver : Turn
+  took : Ending → Turn
+
+-- some turns: the state behind them, what happened, and how each came out
+pub record Played : Type 0 where
+  pub state : State
+  pub told : List Happening
+  pub turns : List Turn
+
+abbrev pub followedBy : Played → Played → Played
+followedBy a b = record { state = b .state; told = a .told ++ b .told; turns = a .turns ++ b .turns }
+
+-- the b of rules 33 and 34: false for CONT alone
+abbrev pub isDone : Turn → Bool
+isDone passedOver = true
+isDone (took Ended) = true
+isDone (took Rested) = true
+isDone (took Missed) = true
+isDone (took Continued) = false
+
+-- the b of rules 35 and 36
+unfoldable pub allDone : List Turn → Bool
+allDone [] = true
+allDone (t ∷ ts) = isDone t && allDone ts
+
+-- rule 38: the flags for another pass
+abbrev pub again : State → State
+again s = withMoves s false (not (s .moved))
+
+-- a round's passes, and how many they are
+pub record Round : Type 0 where
+  pub played : Played
+  pub passes : ℕ
+
+-- the passes that a round may take: behind a pass in which no signal is given and no routine ends there is to be at most one more
+abbrev pub mostPasses : ℕ
+mostPasses = 2 + mostSteps + mostRoutines
+
+module _ (book : List ℕ) where
+  -- the steps of routine r in a turn
+  abbrev pub ticksOf : ℕ → State → Ticks
+  ticksOf r s =
+      let steps = routineSteps book r in
+      ticks (mostTicks steps) (countsOf book) r steps (positionOf (routineAt (s .game) r)) s
+
+  -- rules 33 and 34
+  unfoldable pub turn : ℕ → State → Played
+  turn r s =
+      let x = routineAt (s .game) r in
+      let t = ticksOf r s in
+      if x .suspended || not (eqb (x .stage) continuing)
+      then record { state = s; told = []; turns = passedOver ∷ [] }
+      else record { state = afterTurn r t; told = t .told; turns = took (t .ending) ∷ [] }
+
+  -- rules 35 and 36: the listed routines in order
+  unfoldable pub pass : List ℕ → State → Played
+  pass [] s = record { state = s; told = []; turns = [] }
+  pass (r ∷ rs) s =
+      let first = turn r s in
+      followedBy first (pass rs (first .state))
+
+  -- rules 37 and 38, with at most n passes
+  unfoldable pub instant : ℕ → List ℕ → State → Round
+  instant zero rs s = record { played = record { state = s; told = []; turns = [] }; passes = 0 }
+  instant (suc n) rs s =
+      let first = pass rs s in
+      let others = instant n rs (again (first .state)) in
+      if allDone (first .turns)
+      then record { played = first; passes = 1 }
+      else record { played = followedBy first (others .played); passes = others .passes + 1 }
+
+  -- a round: the eight actions, then its passes
+  unfoldable pub round : Game → Round
+  round g =
+      let s = atStart g in
+      instant mostPasses (entriesOf (s .game .listed)) s

@@ -1,0 +1,29 @@
+-- Why a round is turned down, or not: the clauses of document 01 that decide it.
+use Prim.Native.Nat.{ℕ, suc, _<_, _≤_}
+use mathlib.Core.Path.{_≡_}
+use mathlib.Core.Bool.{true, false}
+use mathlib.Core.List.{List}
+use lib.ListN.{length}
+use lib.IntN.{ℤ}
+use Rattle.book.specs.declared.Verdict.{Verdict}
+use Rattle.book.specs.Verdicts.{accepted, refused}
+use Rattle.book.specs.Accepted.{Accepted}
+use Rattle.book.specs.Tells.{Tells}
+use Rattle.game.specs.declared.Game.{Game}
+use Rattle.game.specs.Fits.{Fits}
+use Rattle.round.specs.Rounds.{round}
+use Rattle.round.specs.Answers.{spaceFor}
+
+-- "a round checks 1 to 7, then 9, 10, 11"
+pub data RoundTells (s : List ℕ) (g : Game) (buffer : List ℤ) : Verdict → Type 0 where
+  -- 1 to 7, as reading the book tells them
+  book : {k p : ℕ} → Tells s (suc k) p → RoundTells s g buffer (refused (suc k) p)
+  -- 9. "The game doesn't fit the book."
+  unfit : Accepted s → (Fits s g → ⊥) → RoundTells s g buffer (refused 9 0)
+  -- 10. "The mark buffer .. is shorter than twice the book's mark steps."
+  short : Accepted s → Fits s g → length buffer < spaceFor s → RoundTells s g buffer (refused 10 0)
+  -- 11. "More than 1,024 numbers are given in one round.": more than are kept
+  tooMany :
+      Accepted s → Fits s g → spaceFor s ≤ length buffer → round s g .played .state .tooMany ≡ true → RoundTells s g buffer (refused 11 0)
+  -- "both 0 where nothing is turned down"
+  nothing : Accepted s → Fits s g → spaceFor s ≤ length buffer → round s g .played .state .tooMany ≡ false → RoundTells s g buffer accepted

@@ -1,0 +1,153 @@
+-- One step of one routine: rules 1 to 32, in the order of document 01's table of kinds. What a step comes to stands apart from its effect.
+use Prim.Native.Nat.{ℕ, _+_, _-_}
+use mathlib.Core.Bool.{true, false, _&&_, not}
+use mathlib.Core.List.{List, [], _∷_, _++_}
+use lib.Dec.{eqb, ltb}
+use lib.ListN.{length, set}
+use lib.IntN.{ℤ}
+use Rattle.numbers.specs.Choice.{if_then_else_}
+use Rattle.numbers.specs.Numbers.{sumOf, relationOf}
+use Rattle.kinds.specs.declared.Kind.{Kind}
+use Rattle.kinds.specs.declared.Kind.the-variants as kind
+use Rattle.kinds.specs.declared.Step.{Step}
+use Rattle.kinds.specs.declared.Step.the-variants as step
+use Rattle.kinds.specs.declared.Counts.{Counts}
+use Rattle.kinds.specs.Steps.{stepAt}
+use Rattle.game.specs.Game.{routineAt, counterAt, withStop, withSuspend, withResume, withStart, withStarting, withCounter, withRoutine}
+use Rattle.round.specs.declared.Ending.the-variants.{Ended, Rested, Missed, Continued}
+use Rattle.round.specs.declared.Position.{Position}
+use Rattle.round.specs.declared.Effect.{Effect}
+use Rattle.round.specs.declared.Effect.the-variants.{Nothing, Mark, Put, Add, Give, GiveNumber, Start, Stop, Suspend, Resume}
+use Rattle.round.specs.declared.Act.{Act}
+use Rattle.round.specs.declared.Act.the-variants.{Goes, Halts}
+use Rattle.round.specs.State.{State, withGame, withPresent, withNumbers, withMoves, Thing, signal, end, number, Happening, gave}
+use Rattle.round.specs.State.{ended, missing, past, marked, numbersOf, numberAt, isThere}
+use Rattle.round.specs.Jumps.{sizeOf, pastPartner, fromEnd}
+
+-- what a step comes to, and what happens in it
+pub record Tick : Type 0 where
+  pub act : Act
+  pub told : List Happening
+
+abbrev pub telling : Act → List Happening → Tick
+telling a told = record { act = a; told = told }
+
+-- a place with nothing begun
+abbrev pub fresh : ℕ → Position
+fresh p = record { place = p; begun = false; left = 0 }
+
+-- "Begun is set when op 7, 9 or 11 pauses": on this place, with this count left
+abbrev pub begunAt : ℕ → ℕ → Position
+begunAt p left = record { place = p; begun = true; left = left }
+
+-- the count of a timed step: what is left of it, or n
+abbrev pub countAt : Position → ℕ → ℕ
+countAt x n = if x .begun then x .left else n
+
+-- routine r stands at position x of its steps
+module _ (r : ℕ) (steps : List ℕ) (x : Position) (s : State) where
+  -- the turn goes on behind the step (rule 3), with what the step changes
+  abbrev pub onward : Effect → Act
+  onward e = Goes (x .place + 1) e
+
+  -- a try of op 8 to 12: what the step comes to if its thing is there, and if it is missing
+  abbrev pub tries : Thing → Act → Act → Tick
+  tries t found lacking =
+      if isThere s t then telling found (past r (x .place) t ∷ []) else telling lacking (missing r (x .place) t ∷ [])
+
+  -- where its thing is missing, a routine is to be continued, and rests at position y once the round is being closed
+  abbrev pub lacks : Position → Act
+  lacks y = if s .eoi then Halts Missed y else Halts Continued x
+
+  -- rules 14 to 18; "every other pause leaves it on its own step"
+  abbrev pub waits : Thing → Tick
+  waits t = tries t (onward Nothing) (lacks (fresh (x .place)))
+
+  -- rules 23 and 24, with the count k
+  abbrev pub restsFor : ℕ → Act
+  restsFor k = if eqb k 0 then onward Nothing else Halts Rested (begunAt (x .place) (k - 1))
+
+  -- rules 25 to 29, with the count k
+  unfoldable pub waitsFor : Thing → ℕ → Tick
+  waitsFor t k =
+      if eqb k 0 && not (isThere s t)
+      then telling (onward Nothing) []
+      else tries t (onward Nothing) (lacks (begunAt (x .place) (k - 1)))
+
+  -- rules 30 to 32; "a reading that stayed missing, leaves the place on the step that follows it in the book"
+  abbrev pub reads : ℕ → ℕ → ℕ → Tick
+  reads e c k = tries (number e k) (onward (Put c (numberAt s e k))) (lacks (fresh (x .place + 1)))
+
+  -- rules 5, 6, 9 and 10: into the block where the test holds, and otherwise past it
+  abbrev pub tests : ℕ → ℕ → ℤ → Act
+  tests c relation n =
+      Goes (if eqb (relationOf relation (counterAt (s .game) c) n) 1 then x .place + 1 else pastPartner steps (x .place)) Nothing
+
+  -- the step of this kind
+  unfoldable pub tickOf : Kind → Tick
+  -- rule 1
+  tickOf (kind.Mark n) = telling (onward (Mark n)) (marked r n ∷ [])
+  tickOf (kind.Set c n) = telling (onward (Put c n)) []
+  tickOf (kind.Add c n) = telling (onward (Add c (sumOf (counterAt (s .game) c) n))) []
+  tickOf (kind.Take c d) = telling (onward (Add c (sumOf (counterAt (s .game) c) (counterAt (s .game) d)))) []
+  -- rules 12 and 13
+  tickOf (kind.Signal e) = telling (onward (Give e)) (gave e 0 ∷ [])
+  tickOf (kind.SignalNumber e c) =
+      telling (onward (GiveNumber e (counterAt (s .game) c))) (gave e (length (numbersOf s e) + 1) ∷ [])
+  -- rule 11; "Op 6 .. leaves the place on the step that follows it in the book"
+  tickOf kind.Rest = telling (Halts Rested (fresh (x .place + 1))) []
+  tickOf (kind.RestFor n) = telling (restsFor (countAt x n)) []
+  tickOf (kind.Wait e) = waits (signal e)
+  tickOf (kind.WaitFor e n) = waitsFor (signal e) (countAt x n)
+  tickOf (kind.Join t) = waits (end t)
+  tickOf (kind.JoinFor t n) = waitsFor (end t) (countAt x n)
+  tickOf (kind.Read e c k) = reads e c k
+  -- rules 19 to 22
+  tickOf (kind.Start t) = telling (onward (Start t)) []
+  tickOf (kind.Stop t) = telling (onward (Stop t)) []
+  tickOf (kind.Suspend t) = telling (onward (Suspend t)) []
+  tickOf (kind.Resume t) = telling (onward (Resume t)) []
+  tickOf (kind.If c relation n) = telling (tests c relation n) []
+  tickOf kind.Else = telling (Goes (pastPartner steps (x .place)) Nothing) []
+  tickOf (kind.While c relation n) = telling (tests c relation n) []
+  tickOf kind.End = telling (Goes (fromEnd steps (x .place)) Nothing) []
+
+  -- the routine's end, behind its last step: "An ended routine's place is its step count."
+  abbrev pub quits : Tick
+  quits = telling (Halts Ended (fresh (sizeOf steps))) (ended r ∷ [])
+
+  -- where a step stands, or none: in an accepted book, none stands behind a routine's last step and nowhere else
+  abbrev pub tickAt : Step → Tick
+  tickAt (step.Kind k) = tickOf k
+  tickAt step.Refused = quits
+
+unfoldable pub tick : Counts → ℕ → List ℕ → Position → State → Tick
+tick counts r steps x s = tickAt r steps x s (stepAt counts steps (x .place))
+
+-- 11. "More than 1,024 numbers are given in one round."
+abbrev pub mostNumbers : ℕ
+mostNumbers = 1024
+
+-- rule 12 "sets the flag each time"
+abbrev pub given : State → ℕ → State
+given s e = withMoves (withPresent s (set (s .present) e true)) true (s .eoi)
+
+-- rule 13; one number too many is not kept
+abbrev pub givenNumber : State → ℕ → ℤ → State
+givenNumber s e v =
+    if ltb (length (s .numbers)) mostNumbers
+    then withNumbers (given s e) (s .numbers ++ ((e, v) ∷ [])) (s .tooMany)
+    else withNumbers (given s e) (s .numbers) true
+
+-- the state behind an effect; a mark is told and changes nothing
+unfoldable pub effectOn : Effect → State → State
+effectOn Nothing s = s
+effectOn (Mark n) s = s
+effectOn (Put c v) s = withGame s (withCounter (s .game) c v)
+effectOn (Add c v) s = withGame s (withCounter (s .game) c (v .sum))
+effectOn (Give e) s = given s e
+effectOn (GiveNumber e v) s = givenNumber s e v
+effectOn (Start t) s = withGame s (withStarting (s .game) (withStart (s .game .starting) t (routineAt (s .game) t .stage)))
+effectOn (Stop t) s = withGame s (withRoutine (s .game) t (withStop (routineAt (s .game) t)))
+effectOn (Suspend t) s = withGame s (withRoutine (s .game) t (withSuspend (routineAt (s .game) t)))
+effectOn (Resume t) s = withGame s (withRoutine (s .game) t (withResume (routineAt (s .game) t)))
