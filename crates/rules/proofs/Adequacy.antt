@@ -1,0 +1,69 @@
+-- The game, the marks and the passes of an accepted round are those that the rules give, and no others. That the answer is accepted says
+-- that the game fits and that no number was too many; the rest is what is shown of the round that it has played.
+use Prim.Native.Nat.{ℕ, _<_}
+use mathlib.Core.Path.{_≡_, refl, sym, ap, _∙_, subst}
+use mathlib.Core.List.{List, []}
+use mathlib.Core.Logic.{dite}
+use native.Mathlib.Bridge.{le-prop}
+use native.Mathlib.Decide.{decLt}
+use lib.IntN.{ℤ}
+use Rattle.book.specs.declared.Verdict.{Verdict}
+use Rattle.book.specs.Verdicts.{accepted}
+use Rattle.book.specs.Layout.{routinesOf}
+use Rattle.book.specs.Accepted.{Accepted}
+use Rattle.game.specs.declared.Game.{Game}
+use Rattle.game.specs.Game.{routineAt, Sized}
+use Rattle.round.specs.declared.Position.{Position}
+use Rattle.round.specs.State.{State}
+use Rattle.round.specs.Actions.{positionOf}
+use Rattle.round.specs.Rounds.{round}
+use Rattle.round.specs.Answers.{marksIn, answer}
+use Rattle.round.specs.Enough.{Enough}
+use Rattle.round.proofs.Telling.{round-tells, answer-verdict, played-out, told-playable}
+use Rattle.rules.specs.Instructions.{Instruction, nothing}
+use Rattle.rules.specs.Residual.{residual, _⇝_, same}
+use Rattle.rules.specs.Claims.{Stands, threadsOf, ByTheRules}
+use Rattle.rules.proofs.Rounds.{round-counts, round-given}
+
+module _ (book : List ℕ) (a : Accepted book) where
+  pub answer-by-the-rules :
+      (run : ℕ → Instruction) (s : State) (buffer : List ℤ) → Sized (s .game) → Enough book (s .game) → Stands book a run (s .game) →
+      answer book (s .game) buffer .verdict ≡ accepted →
+      ByTheRules book a run s buffer (answer book (s .game) buffer)
+  answer-by-the-rules run s buffer z enough stand e =
+      let g = s .game in
+      let h = ap (λ (v : Verdict). v .number) (sym (answer-verdict book g buffer) ∙ e) in
+      let (b, fits, space, few) = told-playable (round-tells book g buffer) h in
+      let (run′, given, stands) = round-given book a run s [] z fits enough stand few in
+      rw (played-out book g buffer h) (
+      record {
+        last = round book g .played .state;
+        marks = marksIn (round book g .played .told);
+        run′ = run′;
+        given = given;
+        game = refl;
+        counts = round-counts book a g z fits;
+        stands = stands;
+        counted = refl;
+        buffered = refl;
+      }
+      )
+
+  -- a game's own threads stand for it, so every game is covered
+  pub threads-stand : (g : Game) → Stands book a (threadsOf book a g) g
+  threads-stand g r h = by (decLt r (routinesOf book))
+    where
+      x : Position
+      x = positionOf (routineAt g r)
+
+      by : (d : Dec (r < routinesOf book)) → dite d (λ l. residual book a r l x) (λ n. nothing) ⇝ residual book a r h x
+      by (yes l) = subst (λ (m : r < routinesOf book). residual book a r l x ⇝ residual book a r m x) (le-prop l h) same
+      by (no n) = absurd (n h)
+
+  -- so whatever game a round is accepted for, the rules give its answer
+  pub round-by-the-rules :
+      (s : State) (buffer : List ℤ) → Sized (s .game) → Enough book (s .game) →
+      answer book (s .game) buffer .verdict ≡ accepted →
+      ByTheRules book a (threadsOf book a (s .game)) s buffer (answer book (s .game) buffer)
+  round-by-the-rules s buffer z enough e =
+      answer-by-the-rules (threadsOf book a (s .game)) s buffer z enough (threads-stand (s .game)) e

@@ -1,0 +1,166 @@
+-- What a step's effect does to the scheduler that a state stands for is what the rules say: field by field, where a list of flags is a map
+-- over the routines, and a start adds to a list that has room, since different routines are no more than there are.
+use Prim.Native.Nat.{ℕ, _<_, _≤_}
+use mathlib.Core.Path.{_≡_, refl, sym, ap, _∙_}
+use mathlib.Core.Bool.{Bool, true, false, _&&_, not, true≢false, false≢true}
+use mathlib.Core.List.{List, [], _∷_, _++_, map}
+use native.Mathlib.Omega.{arith}
+use borrow.Author.Tests.{not-true}
+use lib.Dec.{eqb, ltb}
+use lib.ListN.{length, set}
+use lib.Seq.{map-set-same}
+use lib.IntN.{ℤ}
+use Rattle.numbers.specs.Choice.{if_then_else_}
+use Rattle.numbers.specs.declared.Sum.{Sum}
+use Rattle.book.specs.Layout.{mostRoutines}
+use Rattle.game.specs.declared.Routine.{Routine}
+use Rattle.game.specs.Lines.{isIn, pushed, entriesOf}
+use Rattle.game.specs.Game.{notStarted, blank, routineAt, withFlags, withRoutine, withStarting}
+use Rattle.game.specs.Game as game
+use Rattle.game.specs.Fits.{In}
+use Rattle.game.proofs.Below.{and-both, by-test}
+use Rattle.game.proofs.Lists.{is-in}
+use Rattle.game.proofs.Room.{room}
+use Rattle.round.specs.declared.Effect.the-variants.{Nothing, Mark, Put, Add, Give, GiveNumber, Start, Stop, Suspend, Resume}
+use Rattle.round.specs.State.{State, withGame}
+use Rattle.round.specs.Ticks.{effectOn, mostNumbers}
+use Rattle.rules.specs.Instructions.{signal, mark}
+use Rattle.rules.specs.Schedulers.{Stage, Scheduler, isAmong, statusOf, isNotStarted, moved, withEvent, withValue, put, called}
+use Rattle.rules.specs.Schedulers.{withOrders, withThreads, withStart, withStop, withSuspend, withResume}
+use Rattle.rules.specs.View.{view}
+use Rattle.rules.proofs.Walks.{Marks, Sound}
+use Rattle.rules.proofs.Maps.{map-set}
+use Rattle.rules.proofs.Stages.{seen, not-started-view}
+use Rattle.rules.proofs.Lines.{pushed-entries, entries-among}
+
+-- a scheduler with other orders, but for those to broadcast
+abbrev ordered : Scheduler → List ℕ → List Bool → List Bool → List Bool → Scheduler
+ordered σ starts stops suspends resumes =
+    withOrders σ (
+    record {
+      toBroadcast = σ .orders .toBroadcast;
+      toStart = starts;
+      toStop = stops;
+      toSuspend = suspends;
+      toResume = resumes;
+    }
+    )
+
+-- a scheduler with others to start
+abbrev starting : List ℕ → Scheduler → Scheduler
+starting l σ = ordered σ l (σ .orders .toStop) (σ .orders .toSuspend) (σ .orders .toResume)
+
+-- effects that change one field
+module _ (s : State) (ms : Marks) where
+  pub nothing-view : view (effectOn Nothing s) ms ≡ view s ms
+  unfolding effectOn
+  nothing-view = refl
+
+  pub mark-view : (r : ℕ) (n : ℤ) → view (effectOn (Mark n) s) (ms ++ ((r, n) ∷ [])) ≡ called (mark r n) (view s ms)
+  unfolding effectOn view
+  mark-view r n = refl
+
+  pub count-view : (c : ℕ) (v : ℤ) → view (effectOn (Put c v) s) ms ≡ put c v (view s ms)
+  unfolding effectOn view
+  count-view c v = refl
+
+  pub add-view : (c : ℕ) (v : Sum) → view (effectOn (Add c v) s) ms ≡ put c (v .sum) (view s ms)
+  unfolding effectOn view
+  add-view c v = refl
+
+  pub give-view : (e : ℕ) → view (effectOn (Give e) s) ms ≡ moved (withEvent (signal e) (view s ms))
+  unfolding effectOn view
+  give-view e = refl
+
+  -- where no number was too many, there was room for this one
+  pub give-number-view :
+      (e : ℕ) (v : ℤ) → effectOn (GiveNumber e v) s .tooMany ≡ false →
+      view (effectOn (GiveNumber e v) s) ms ≡ withValue e v (moved (withEvent (signal e) (view s ms)))
+  unfolding effectOn view
+  give-number-view e v h =
+      by-test
+      (λ (u : State). u .tooMany ≡ false → view u ms ≡ withValue e v (moved (withEvent (signal e) (view s ms))))
+      (ltb (length (s .numbers)) mostNumbers)
+      (λ room none. refl) (λ full none. absurd (true≢false none))
+      h
+
+-- routine t of a state gives way to another one
+module _ (s : State) (t : ℕ) (x : Routine) where
+  abbrev among : List Routine
+  among = set (s .game .routines) t x
+
+  -- a field that it keeps, and one that it may change
+  pub keeps : {B : Type 0} (f : Routine → B) → f x ≡ f (routineAt (s .game) t) → map f among ≡ map f (s .game .routines)
+  keeps f e = map-set-same f (s .game .routines) t x blank e
+
+  pub changes : {B : Type 0} (f : Routine → B) → map f among ≡ set (map f (s .game .routines)) t (f x)
+  changes f = map-set f (s .game .routines) t x
+
+  -- the lists that the fields make
+  pub routine-view :
+      (ms : Marks) {status : List Stage} {susp stops suspends resumes : List Bool} →
+      map seen among ≡ status → map (λ x. x .suspended) among ≡ susp →
+      map (λ x. x .stopping) among ≡ stops → map (λ x. x .suspending) among ≡ suspends → map (λ x. x .resuming) among ≡ resumes →
+      view (withGame s (withRoutine (s .game) t x)) ms
+      ≡ withThreads (ordered (view s ms) (entriesOf (s .game .starting)) stops suspends resumes) (record { status = status; susp = susp })
+  unfolding view
+  routine-view ms a b c d e = λ i.
+      withThreads (ordered (view s ms) (entriesOf (s .game .starting)) (c i) (d i) (e i)) (record { status = a i; susp = b i })
+
+-- orders for routines
+module _ (s : State) (ms : Marks) (t : ℕ) where
+  module _ (stop suspend resume : Bool) where
+    abbrev flagged : Routine
+    flagged = withFlags (routineAt (s .game) t) stop suspend resume
+
+    flags-view :
+        {stops suspends resumes : List Bool} → map (λ x. x .stopping) (among s t flagged) ≡ stops →
+        map (λ x. x .suspending) (among s t flagged) ≡ suspends → map (λ x. x .resuming) (among s t flagged) ≡ resumes →
+        view (withGame s (withRoutine (s .game) t flagged)) ms
+        ≡ ordered (view s ms) (entriesOf (s .game .starting)) stops suspends resumes
+    unfolding view
+    flags-view = routine-view s t flagged ms (keeps s t flagged seen refl) (keeps s t flagged (λ x. x .suspended) refl)
+
+  pub stop-view : view (effectOn (Stop t) s) ms ≡ withStop t (view s ms)
+  unfolding effectOn view
+  stop-view =
+      flags-view _ _ _ (changes s t _ (λ x. x .stopping)) (keeps s t _ (λ x. x .suspending) refl) (keeps s t _ (λ x. x .resuming) refl)
+
+  pub suspend-view : view (effectOn (Suspend t) s) ms ≡ withSuspend t (view s ms)
+  unfolding effectOn view
+  suspend-view =
+      flags-view _ _ _ (keeps s t _ (λ x. x .stopping) refl) (changes s t _ (λ x. x .suspending)) (keeps s t _ (λ x. x .resuming) refl)
+
+  pub resume-view : view (effectOn (Resume t) s) ms ≡ withResume t (view s ms)
+  unfolding effectOn view
+  resume-view =
+      flags-view _ _ _ (keeps s t _ (λ x. x .stopping) refl) (keeps s t _ (λ x. x .suspending) refl) (changes s t _ (λ x. x .resuming))
+
+-- those to start, by whether routine t joins them
+joins-view :
+    (s : State) (ms : Marks) (t : ℕ) (new : Bool) →
+    (new ≡ true → entriesOf (pushed (s .game .starting) t) ≡ entriesOf (s .game .starting) ++ (t ∷ [])) →
+    view (withGame s (withStarting (s .game) (if new then pushed (s .game .starting) t else s .game .starting))) ms
+    ≡ (if new then starting (view s ms .orders .toStart ++ (t ∷ [])) (view s ms) else view s ms)
+unfolding view
+joins-view s ms t true e = ap (λ l. starting l (view s ms)) (e refl)
+joins-view s ms t false e = refl
+
+pub start-view :
+    {routines : ℕ} (s : State) (ms : Marks) (t : ℕ) → Sound routines s → t < routines → routines ≤ mostRoutines →
+    view (effectOn (Start t) s) ms ≡ withStart t (view s ms)
+unfolding effectOn game.withStart
+start-view s ms t sound below few =
+    let l = s .game .starting in
+    let right = sound .starting in
+    let unstarted = eqb (routineAt (s .game) t .stage) notStarted in
+    let new = unstarted && not (isIn l t) in
+    let same : (isNotStarted (statusOf (view s ms) t) && not (isAmong t (view s ms .orders .toStart))) ≡ new =
+    unfold view in rw (not-started-view s ms t, entries-among l right (sound .items) t)
+    in
+    rw same (
+    joins-view s ms t new (λ e.
+    let absent = not-true (isIn l t) (and-both unstarted (not (isIn l t)) e .1) in
+    let apart : In l t → ⊥ = λ v. false≢true (sym absent ∙ is-in l (right .short) t .1 v) in
+    pushed-entries l t (sound .items) (omega (arith, room l t right below apart, few)))
+    )

@@ -1,0 +1,192 @@
+-- A step that holds no block: what its tick comes to is an instance of its rule. Where the turn goes on, by what its effect does to the
+-- scheduler; where it may wait, by what a try comes to.
+use Prim.Native.Nat.{ℕ, suc, _+_, _-_, _<_, _≤_}
+use mathlib.Core.Path.{_≡_, refl, ap, _∙_}
+use mathlib.Core.Bool.{Bool, true, false, _&&_, not, true≢false}
+use mathlib.Core.List.{List, [], _++_, append-nil}
+use mathlib.Core.Logic.{_≢_, _⊎_, inl, inr}
+use native.Mathlib.Omega.{arith}
+use native.Mathlib.Decide.{decLe}
+use native.Mathlib.Numerals.{add-one}
+use borrow.Author.Tests.{eqb-true, eqb-false}
+use lib.Dec.{eqb}
+use Rattle.numbers.specs.Numbers.{sumOf}
+use Rattle.book.specs.Layout.{mostRoutines}
+use Rattle.kinds.specs.declared.Kind.{Kind}
+use Rattle.kinds.specs.declared.Kind.the-variants as kind
+use Rattle.kinds.specs.declared.Step.the-variants as step
+use Rattle.kinds.specs.declared.Counts.{Counts}
+use Rattle.kinds.specs.declared.Form.{Form}
+use Rattle.kinds.specs.declared.Form.the-variants.{Plain, Pausing}
+use Rattle.kinds.specs.Steps.{stepAt}
+use Rattle.kinds.specs.Forms.{formOf}
+use Rattle.game.specs.Game.{counterAt}
+use Rattle.game.proofs.Below.{and-both, by-test}
+use Rattle.blocks.specs.Blocks.{stands, viewAt}
+use Rattle.round.specs.declared.Ending.{Ending}
+use Rattle.round.specs.declared.Ending.the-variants.{Missed, Continued}
+use Rattle.round.specs.declared.Position.{Position}
+use Rattle.round.specs.declared.Effect.{Effect}
+use Rattle.round.specs.declared.Effect.the-variants.{Nothing, Put, Add, Give, GiveNumber, Start, Stop, Suspend, Resume}
+use Rattle.round.specs.declared.Act.{Act}
+use Rattle.round.specs.declared.Act.the-variants.{Goes, Halts}
+use Rattle.round.specs.State.{State, Thing, signal, end, number, numberAt, isThere}
+use Rattle.round.specs.Ticks.{Tick, fresh, begunAt, countAt, onward, lacks, tries, restsFor, waitsFor, reads, tickOf, effectOn}
+use Rattle.round.specs.Jumps.{sizeOf}
+use Rattle.round.proofs.Forms.{leaf-there, start-below}
+use Rattle.rules.specs.Instructions.{TERM, nothing}
+use Rattle.rules.specs.Schedulers.{Scheduler, returned}
+use Rattle.rules.specs.Rules.{⟨_&_⟩⟶[_]⟨_&_⟩, rule1, rule11, rule12, rule13, rule19, rule20, rule21, rule22, rule23, rule24, rule25}
+use Rattle.rules.specs.Rules.{rule28, rule30, rule31, rule32}
+use Rattle.rules.specs.Residual.{instruction}
+use Rattle.rules.specs.View.{view}
+use Rattle.rules.proofs.Walks.{Marks, Fine, marksOf, statusAfter}
+use Rattle.rules.proofs.Effects.{nothing-view, mark-view, count-view, add-view, give-view, give-number-view, start-view, stop-view}
+use Rattle.rules.proofs.Effects.{suspend-view, resume-view}
+use Rattle.rules.proofs.Tries.{coop-term, cont-term, values-numbers, number-given, number-missing, Idle, Tried, tried-wait}
+use Rattle.rules.proofs.Tries.{tried-wait-for, tried-join, tried-join-for}
+
+-- the form of a step that holds no block, and another one
+abbrev Leaf : Form → Type 0
+Leaf f = (f ≡ Plain) ⊎ (f ≡ Pausing)
+
+no-leaf : {f : Form} {A : Type 0} → Leaf f → (f ≡ Plain → true ≡ false) → (f ≡ Pausing → true ≡ false) → A
+no-leaf (inl e) p q = absurd (true≢false (p e))
+no-leaf (inr e) p q = absurd (true≢false (q e))
+
+-- where a thing is missing, and not with its count over, the count is not over
+not-over : (a b : Bool) → (a && not b) ≡ false → b ≡ false → a ≡ false
+not-over true b h e = rw e at h
+not-over false b h e = refl
+
+-- a step that ends the turn is kept, with the count left, or is behind the routine
+pub data Halted (r : ℕ) (k : Kind) (x : Position) (s : State) (ms : Marks) (h : Ending) (y : Position) : Type 0 where
+  stays :
+      ⟨ instruction r x k & view s ms ⟩⟶[ statusAfter h ]⟨ instruction r y k & view s ms ⟩ →
+      statusAfter h ≢ TERM → y .place ≡ x .place →
+      Halted r k x s ms h y
+  leaves :
+      ⟨ instruction r x k & view s ms ⟩⟶[ statusAfter h ]⟨ nothing & view s ms ⟩ →
+      statusAfter h ≢ TERM → y ≡ fresh (suc (x .place)) →
+      Halted r k x s ms h y
+
+module _ (counts : Counts) (r : ℕ) (steps : List ℕ) where
+  abbrev pub ByRule : Kind → Position → State → Marks → Act → Type 0
+  ByRule k x s ms (Goes q e) =
+      (q ≡ suc (x .place))
+      × (Fine (counts .routines) s → Fine (counts .routines) (effectOn e s) →
+      ⟨ instruction r x k & view s ms ⟩⟶[ TERM ]⟨ nothing & view (effectOn e s) (ms ++ marksOf r e) ⟩)
+  ByRule k x s ms (Halts h y) = Halted r k x s ms h y
+
+  module _ (k : Kind) (x : Position) (s : State) (ms : Marks) where
+    -- the turn goes on behind an effect that leaves no mark
+    changes :
+        (e : Effect) → marksOf r e ≡ [] → {σ : Scheduler} →
+        (Fine (counts .routines) s → Fine (counts .routines) (effectOn e s) → view (effectOn e s) ms ≡ σ) →
+        ⟨ instruction r x k & view s ms ⟩⟶[ TERM ]⟨ nothing & σ ⟩ →
+        ByRule k x s ms (onward r steps x s e)
+    changes e none same h = (add-one (x .place), λ f g. rw (none, append-nil, same f g) h)
+
+    passes : Idle s ms (instruction r x k) TERM nothing → ByRule k x s ms (onward r steps x s Nothing)
+    passes h = changes Nothing refl (λ f g. nothing-view s ms) h
+
+    -- a try, by what its thing's test says
+    attempts :
+        (t : Thing) (e : Effect) (y : Position) → (isThere s t ≡ true → ByRule k x s ms (onward r steps x s e)) →
+        (isThere s t ≡ false → s .eoi ≡ true → Halted r k x s ms Missed y) →
+        (isThere s t ≡ false → s .eoi ≡ false → Halted r k x s ms Continued x) →
+        ByRule k x s ms (tries r steps x s t (onward r steps x s e) (lacks r steps x s y) .act)
+    attempts t e y found rests again =
+        by-test (λ (a : Tick). ByRule k x s ms (a .act)) (isThere s t) found (λ none.
+        by-test (ByRule k x s ms) (s .eoi) (rests none) (again none))
+
+    -- a try of a step that stays at position y
+    waiting :
+        (t : Thing) (y : Position) → Tried s ms (isThere s t) (instruction r x k) (instruction r y k) → y .place ≡ x .place →
+        ByRule k x s ms (tries r steps x s t (onward r steps x s Nothing) (lacks r steps x s y) .act)
+    waiting t y w e =
+        attempts t Nothing y
+        (λ h. passes (w .found h)) (λ h o. stays (w .rests h o) coop-term e) (λ h o. stays (w .again h o) cont-term refl)
+
+    -- the same with a count, which may be over
+    waiting-for :
+        (t : Thing) (count : ℕ) → (count ≤ 0 → Idle s ms (instruction r x k) TERM nothing) →
+        (0 < count → Tried s ms (isThere s t) (instruction r x k) (instruction r (begunAt (x .place) (count - 1)) k)) →
+        ByRule k x s ms (waitsFor r steps x s t count .act)
+    unfolding waitsFor
+    waiting-for t count over w =
+        by-test (λ (a : Tick). ByRule k x s ms (a .act)) (eqb count 0 && not (isThere s t))
+        (λ h. passes (over (omega (arith, eqb-true count 0 (and-both (eqb count 0) (not (isThere s t)) h .0)))))
+        (λ h.
+        let goes-on : isThere s t ≡ false → 0 < count = λ e. omega (arith, eqb-false count 0 (not-over (eqb count 0) (isThere s t) h e)) in
+        attempts t Nothing (begunAt (x .place) (count - 1))
+        (λ e. passes (elim (decLe count 0) [ yes z ↦ over z | no p ↦ w (omega arith) .found e ]))
+        (λ e o. stays (w (goes-on e) .rests e o) coop-term refl)
+        (λ e o. stays (w (goes-on e) .again e o) cont-term refl))
+
+  module _ (x : Position) (s : State) (ms : Marks) where
+    rests-for : (n : ℕ) → ByRule (kind.RestFor n) x s ms (restsFor r steps x s (countAt x n))
+    rests-for n =
+        by-test (ByRule (kind.RestFor n) x s ms) (eqb (countAt x n) 0)
+        (λ h. passes (kind.RestFor n) x s ms (rule23 (omega (arith, eqb-true (countAt x n) 0 h))))
+        (λ h. stays (rule24 (omega (arith, eqb-false (countAt x n) 0 h))) coop-term refl)
+
+    -- the state behind a reading
+    taken : (e c k : ℕ) → view (effectOn (Put c (numberAt s e k)) s) ms ≡ returned e c k (view s ms)
+    unfolding view
+    taken e c k = count-view s ms c (numberAt s e k) ∙ rw (values-numbers e (s .numbers))
+
+    reads-number : (e c k : ℕ) → ByRule (kind.Read e c k) x s ms (reads r steps x s e c k .act)
+    unfolding view
+    reads-number e c k =
+        attempts (kind.Read e c k) x s ms (number e k) (Put c (numberAt s e k)) (fresh (x .place + 1))
+        (λ h. changes (kind.Read e c k) x s ms (Put c (numberAt s e k)) refl (λ f g. taken e c k) (rule30 (number-given s ms e k h)))
+        (λ h o. leaves (rule32 (number-missing s ms e k h) o) coop-term (ap fresh (add-one (x .place))))
+        (λ h o. stays (rule31 (number-missing s ms e k h) o) cont-term refl)
+
+  leaf-by-rule :
+      (k : Kind) → Leaf (formOf k) → ((t : ℕ) → k ≡ kind.Start t → t < counts .routines) → counts .routines ≤ mostRoutines →
+      (x : Position) (s : State) (ms : Marks) → ByRule k x s ms (tickOf r steps x s k .act)
+  unfolding tickOf view
+  leaf-by-rule (kind.Mark n) l b few x s ms = (add-one (x .place), λ f g. rw mark-view rule1)
+  leaf-by-rule (kind.Set c n) l b few x s ms = changes (kind.Set c n) x s ms (Put c n) refl (λ f g. count-view s ms c n) rule1
+  leaf-by-rule (kind.Add c n) l b few x s ms =
+      let sum = sumOf (counterAt (s .game) c) n in
+      changes (kind.Add c n) x s ms (Add c sum) refl (λ f g. add-view s ms c sum) rule1
+  leaf-by-rule (kind.Take c d) l b few x s ms =
+      let sum = sumOf (counterAt (s .game) c) (counterAt (s .game) d) in
+      changes (kind.Take c d) x s ms (Add c sum) refl (λ f g. add-view s ms c sum) rule1
+  leaf-by-rule (kind.Signal e) l b few x s ms = changes (kind.Signal e) x s ms (Give e) refl (λ f g. give-view s ms e) rule12
+  leaf-by-rule (kind.SignalNumber e c) l b few x s ms =
+      let v = counterAt (s .game) c in
+      changes (kind.SignalNumber e c) x s ms (GiveNumber e v) refl (λ f g. give-number-view s ms e v (g .1)) rule13
+  leaf-by-rule kind.Rest l b few x s ms = leaves rule11 coop-term (ap fresh (add-one (x .place)))
+  leaf-by-rule (kind.RestFor n) l b few x s ms = rests-for x s ms n
+  leaf-by-rule (kind.Wait e) l b few x s ms = waiting (kind.Wait e) x s ms (signal e) (fresh (x .place)) (tried-wait s ms e) refl
+  leaf-by-rule (kind.WaitFor e n) l b few x s ms =
+      waiting-for (kind.WaitFor e n) x s ms (signal e) (countAt x n) (λ z. rule25 (inr z)) (tried-wait-for s ms e (countAt x n))
+  leaf-by-rule (kind.Join t) l b few x s ms = waiting (kind.Join t) x s ms (end t) (fresh (x .place)) (tried-join s ms t) refl
+  leaf-by-rule (kind.JoinFor t n) l b few x s ms =
+      waiting-for (kind.JoinFor t n) x s ms (end t) (countAt x n) (λ z. rule28 (inr z)) (tried-join-for s ms t (countAt x n))
+  leaf-by-rule (kind.Read e c k) l b few x s ms = reads-number x s ms e c k
+  leaf-by-rule (kind.Start t) l b few x s ms =
+      changes (kind.Start t) x s ms (Start t) refl (λ f g. start-view s ms t (f .0) (b t refl) few) rule19
+  leaf-by-rule (kind.Stop t) l b few x s ms = changes (kind.Stop t) x s ms (Stop t) refl (λ f g. stop-view s ms t) rule20
+  leaf-by-rule (kind.Suspend t) l b few x s ms =
+      changes (kind.Suspend t) x s ms (Suspend t) refl (λ f g. suspend-view s ms t) rule21
+  leaf-by-rule (kind.Resume t) l b few x s ms = changes (kind.Resume t) x s ms (Resume t) refl (λ f g. resume-view s ms t) rule22
+  leaf-by-rule (kind.If c relation n) l b few x s ms = no-leaf l (λ e. cc) (λ e. cc)
+  leaf-by-rule kind.Else l b few x s ms = no-leaf l (λ e. cc) (λ e. cc)
+  leaf-by-rule (kind.While c relation n) l b few x s ms = no-leaf l (λ e. cc) (λ e. cc)
+  leaf-by-rule kind.End l b few x s ms = no-leaf l (λ e. cc) (λ e. cc)
+
+  -- where such a step stands, by its rule
+  pub leaf-at :
+      counts .routines ≤ mostRoutines →
+      (p : ℕ) → (viewAt counts steps (sizeOf steps) p ≡ stands Plain) ⊎ (viewAt counts steps (sizeOf steps) p ≡ stands Pausing) →
+      (k : Kind)
+      × (stepAt counts steps p ≡ step.Kind k)
+      × ((x : Position) (s : State) (ms : Marks) → ByRule k x s ms (tickOf r steps x s k .act))
+  leaf-at few p h =
+      let (k, e, leaf) = leaf-there counts steps p h in
+      (k, e, leaf-by-rule k leaf (λ t g. start-below counts steps p (e ∙ ap step.Kind g)) few)

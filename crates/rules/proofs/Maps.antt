@@ -1,0 +1,21 @@
+-- A map over a list, and a store in the list: what the map makes of the list behind the store, and of each of its entries.
+-- By induction over the list.
+use Prim.Native.Nat.{ℕ, zero, suc}
+use mathlib.Core.Path.{_≡_, refl, sym, _∙_, ap}
+use mathlib.Core.List.{List, [], _∷_, map}
+use lib.ListN.{getD, set, List·getD-map}
+use lib.Seq.{map-set-same}
+
+module _ {A B : Type 0} (f : A → B) where
+  pub map-set : (l : List A) (i : ℕ) (x : A) → map f (set l i x) ≡ set (map f l) i (f x)
+  map-set [] i x = refl
+  map-set (y ∷ l) zero x = refl
+  map-set (y ∷ l) (suc i) x = ap (λ (m : List B). f y ∷ m) (map-set l i x)
+
+  -- two lists of which f makes the same have at each place what is the same to f
+  pub same-at : (l m : List A) (d : A) → map f l ≡ map f m → (i : ℕ) → f (getD l i d) ≡ f (getD m i d)
+  same-at l m d e i = sym (List·getD-map f l i d) ∙ ap (λ k. getD k i (f d)) e ∙ List·getD-map f m i d
+
+  -- so has a list where an entry gave way to one that is the same to f
+  pub same-set : (l : List A) (i : ℕ) (x d : A) → f x ≡ f (getD l i d) → (j : ℕ) → f (getD (set l i x) j d) ≡ f (getD l j d)
+  same-set l i x d e = same-at (set l i x) l d (map-set-same f l i x d e)

@@ -1,0 +1,61 @@
+-- What the view of a state shows of a routine, and of a turn: the state behind a turn is seen as rule 34 leaves the scheduler.
+-- Field by field: a turn changes its routine's stage and position, and no position is seen.
+use Prim.Native.Nat.{ℕ}
+use mathlib.Core.Path.{_≡_, refl, _∙_, ap}
+use mathlib.Core.List.{map}
+use lib.ListN.{set, List·getD-map}
+use Rattle.game.specs.Lines.{entriesOf}
+use Rattle.game.specs.Game.{blank, routineAt, withRoutine}
+use Rattle.round.specs.declared.Ending.{Ending}
+use Rattle.round.specs.declared.Ending.the-variants.{Ended, Rested, Missed, Continued}
+use Rattle.round.specs.declared.Position.{Position}
+use Rattle.round.specs.State.{State, withGame}
+use Rattle.round.specs.Actions.{placed}
+use Rattle.round.specs.Rounds.{Ticks, stageAfter, withEnd, afterTurn, again}
+use Rattle.rules.specs.Schedulers.{has}
+use Rattle.rules.specs.Instants.{withStatus, withTermination}
+use Rattle.rules.specs.Instants as paper
+use Rattle.rules.specs.View.{view}
+use Rattle.rules.proofs.Walks.{Marks, statusAfter}
+use Rattle.rules.proofs.Stages.{seen, stage-after}
+use Rattle.rules.proofs.Effects.{keeps, changes, routine-view}
+
+module _ (s : State) (ms : Marks) where
+  pub actual-seen : view s ms .actual ≡ entriesOf (s .game .listed)
+  unfolding view
+  actual-seen = refl
+
+  -- the flags for another pass
+  pub again-seen : view (again s) ms ≡ paper.again (view s ms)
+  unfolding view
+  again-seen = refl
+
+module _ (s : State) (ms : Marks) (r : ℕ) where
+  pub suspended-seen : has (view s ms .threads .susp) r ≡ routineAt (s .game) r .suspended
+  unfolding view
+  suspended-seen = List·getD-map (λ x. x .suspended) (s .game .routines) r blank
+
+  placed-seen :
+      (h : Ending) (y : Position) →
+      view (withGame s (withRoutine (s .game) r (placed (routineAt (s .game) r) (stageAfter h) y))) ms
+      ≡ withStatus r (statusAfter h) (view s ms)
+  unfolding view
+  placed-seen h y =
+      let x = placed (routineAt (s .game) r) (stageAfter h) y in
+      routine-view s r x ms (changes s r x seen ∙ ap (set (map seen (s .game .routines)) r) (stage-after h))
+      (keeps s r x (λ a. a .suspended) refl) (keeps s r x (λ a. a .stopping) refl)
+      (keeps s r x (λ a. a .suspending) refl) (keeps s r x (λ a. a .resuming) refl)
+
+  end-seen : (h : Ending) → view (withEnd h r s) ms ≡ withTermination (statusAfter h) r (view s ms)
+  unfolding view
+  end-seen Ended = refl
+  end-seen Rested = refl
+  end-seen Missed = refl
+  end-seen Continued = refl
+
+pub after-seen :
+    (r : ℕ) (t : Ticks) (ms : Marks) →
+    view (afterTurn r t) ms ≡ withTermination (statusAfter (t .ending)) r (withStatus r (statusAfter (t .ending)) (view (t .state) ms))
+after-seen r t ms =
+    end-seen _ ms r (t .ending)
+    ∙ ap (λ σ. withTermination (statusAfter (t .ending)) r σ) (placed-seen (t .state) ms r (t .ending) (t .position))

@@ -1,0 +1,116 @@
+-- A try of a thing, by the rules: what the definitions test is what the rules ask, so that a thing that is there, one that is missing while
+-- the round goes on and one that is missing when it is being closed each meet the conditions of a rule.
+use Prim.Native.Nat.{ℕ, _-_, _≤_, _<_}
+use mathlib.Core.Path.{_≡_, refl, sym, _∙_}
+use mathlib.Core.Bool.{Bool, true, false, _||_, true≢false}
+use mathlib.Core.List.{List, [], _∷_}
+use mathlib.Core.Logic.{_≢_, _⊎_, inl, inr}
+use borrow.Author.Tests.{leb-true, leb-false}
+use lib.Dec.{leb}
+use lib.ListN.{length}
+use lib.IntN.{ℤ}
+use Rattle.round.specs.State.{State, end, number, numbersWith, isEndThere, isThere}
+use Rattle.round.specs.State as thing
+use Rattle.rules.specs.Instructions.{Status, TERM, COOP, CONT, Event, signal, term, Instruction, nothing, await, join, awaitN, joinN}
+use Rattle.rules.specs.Schedulers.{isPresent, valuesFrom, valuesOf, statusOf, isTerminated}
+use Rattle.rules.specs.Rules.{Present, Absent, Terminated, Unterminated, ⟨_&_⟩⟶[_]⟨_&_⟩, rule14, rule15, rule16, rule17, rule18}
+use Rattle.rules.specs.Rules.{rule18-again, rule25, rule26, rule27, rule28, rule29, rule29-again}
+use Rattle.rules.specs.View.{view}
+use Rattle.rules.proofs.Walks.{Marks}
+use Rattle.rules.proofs.Stages.{terminated-view}
+
+pub coop-term : COOP ≢ TERM
+coop-term e = true≢false (cc)
+
+pub cont-term : CONT ≢ TERM
+cont-term e = true≢false (cc)
+
+pub values-numbers : (e : ℕ) (l : List (ℕ × ℤ)) → numbersWith e l ≡ valuesFrom l e
+unfolding numbersWith valuesFrom
+values-numbers e [] = refl
+values-numbers e ((f, v) ∷ l) = rw (values-numbers e l)
+
+first-or-second : (a b : Bool) → (a || b) ≡ true → (a ≡ true) ⊎ ((a ≡ false) × (b ≡ true))
+first-or-second true b h = inl refl
+first-or-second false b h = inr (refl, h)
+
+neither : (a b : Bool) → (a || b) ≡ false → (a ≡ false) × (b ≡ false)
+neither true b h = absurd (true≢false h)
+neither false b h = (refl, h)
+
+module _ (s : State) (ms : Marks) where
+  signal-there : (e : ℕ) → isThere s (thing.signal e) ≡ isPresent (signal e) (view s ms)
+  unfolding isThere view
+  signal-there e = refl
+
+  end-there : (t : ℕ) → isThere s (end t) ≡ (isTerminated (statusOf (view s ms) t) || isPresent (term t) (view s ms))
+  unfolding isThere isEndThere
+  end-there t = rw (terminated-view s ms t) (unfold view in refl)
+
+  end-found :
+      (t : ℕ) → isThere s (end t) ≡ true →
+      Terminated t (view s ms) ⊎ (Unterminated t (view s ms) × Present (term t) (view s ms))
+  end-found t h =
+      first-or-second (isTerminated (statusOf (view s ms) t)) (isPresent (term t) (view s ms)) (sym (end-there t) ∙ h)
+
+  end-missing : (t : ℕ) → isThere s (end t) ≡ false → Unterminated t (view s ms) × Absent (term t) (view s ms)
+  end-missing t h = neither (isTerminated (statusOf (view s ms) t)) (isPresent (term t) (view s ms)) (sym (end-there t) ∙ h)
+
+  number-there : (e k : ℕ) → isThere s (number e k) ≡ leb k (length (valuesOf (view s ms) e))
+  unfolding isThere view
+  number-there e k = rw (values-numbers e (s .numbers))
+
+  pub number-given : (e k : ℕ) → isThere s (number e k) ≡ true → k ≤ length (valuesOf (view s ms) e)
+  number-given e k h = leb-true _ _ (sym (number-there e k) ∙ h)
+
+  pub number-missing : (e k : ℕ) → isThere s (number e k) ≡ false → length (valuesOf (view s ms) e) < k
+  number-missing e k h = leb-false _ _ (sym (number-there e k) ∙ h)
+
+  -- a rule that leaves the scheduler as it is
+  abbrev pub Idle : Instruction → Status → Instruction → Type 0
+  Idle i α j = ⟨ i & view s ms ⟩⟶[ α ]⟨ j & view s ms ⟩
+
+  -- what a try comes to where what it asks for is there, is missing when the round is being closed, and is missing before
+  pub record Tried (there : Bool) (i later : Instruction) : Type 0 where
+    pub found : there ≡ true → Idle i TERM nothing
+    pub rests : there ≡ false → s .eoi ≡ true → Idle i COOP later
+    pub again : there ≡ false → s .eoi ≡ false → Idle i CONT i
+
+  tried-await : (e : Event) → Tried (isPresent e (view s ms)) (await e) (await e)
+  unfolding view
+  tried-await e = record { found = λ p. rule14 p; rests = λ p o. rule16 p o; again = λ p o. rule15 p o }
+
+  tried-awaitN : (e : Event) (k : ℕ) → 0 < k → Tried (isPresent e (view s ms)) (awaitN e k) (awaitN e (k - 1))
+  unfolding view
+  tried-awaitN e k h = record { found = λ p. rule25 (inl p); rests = λ p o. rule27 p h o; again = λ p o. rule26 p h o }
+
+  -- a join of t, by what an await of term(t) comes to
+  tried-end :
+      (t : ℕ) {i later j after : Instruction} → Tried (isPresent (term t) (view s ms)) i later →
+      (Terminated t (view s ms) → Idle j TERM nothing) →
+      (Unterminated t (view s ms) → Idle i TERM nothing → Idle j TERM nothing) →
+      (Unterminated t (view s ms) → Idle i COOP later → Idle j COOP after) →
+      (Unterminated t (view s ms) → Idle i CONT i → Idle j CONT j) →
+      Tried (isThere s (end t)) j after
+  tried-end t w over found rests again =
+      record {
+        found = λ h. elim (end-found t h) [ inl e ↦ over e | inr e ↦ found (e .0) (w .found (e .1)) ];
+        rests = λ h o. let e = end-missing t h in rests (e .0) (w .rests (e .1) o);
+        again = λ h o. let e = end-missing t h in again (e .0) (w .again (e .1) o);
+      }
+
+  pub tried-wait : (e : ℕ) → Tried (isThere s (thing.signal e)) (await (signal e)) (await (signal e))
+  tried-wait e = rw (signal-there e) (tried-await (signal e))
+
+  pub tried-wait-for : (e k : ℕ) → 0 < k → Tried (isThere s (thing.signal e)) (awaitN (signal e) k) (awaitN (signal e) (k - 1))
+  tried-wait-for e k h = rw (signal-there e) (tried-awaitN (signal e) k h)
+
+  pub tried-join : (t : ℕ) → Tried (isThere s (end t)) (join t) (join t)
+  tried-join t =
+      tried-end t (tried-await (term t))
+      (λ e. rule17 e) (λ e a. rule18 e a) (λ e a. rule18-again e a coop-term) (λ e a. rule18-again e a cont-term)
+
+  pub tried-join-for : (t k : ℕ) → 0 < k → Tried (isThere s (end t)) (joinN t k) (joinN t (k - 1))
+  tried-join-for t k h =
+      tried-end t (tried-awaitN (term t) k h)
+      (λ e. rule28 (inl e)) (λ e a. rule29 e a) (λ e a. rule29-again e a coop-term) (λ e a. rule29-again e a cont-term)

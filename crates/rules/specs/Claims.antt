@@ -1,0 +1,53 @@
+-- What is claimed of a round as defined: the rules give it, and no other.
+use Prim.Native.Nat.{ℕ, _<_, _*_}
+use mathlib.Core.Path.{_≡_}
+use mathlib.Core.List.{List, [], _++_}
+use mathlib.Core.Logic.{dite}
+use native.Mathlib.Decide.{decLt}
+use lib.ListN.{length, drop}
+use lib.IntN.{ℤ}
+use Rattle.book.specs.Layout.{routinesOf}
+use Rattle.book.specs.Accepted.{Accepted}
+use Rattle.game.specs.declared.Game.{Game}
+use Rattle.game.specs.Game.{routineAt}
+use Rattle.round.specs.State.{State}
+use Rattle.round.specs.Actions.{positionOf}
+use Rattle.round.specs.Answers.{numbersPerMark, written, Answer}
+use Rattle.rules.specs.Instructions.{Instruction, nothing}
+use Rattle.rules.specs.Schedulers.{Scheduler}
+use Rattle.rules.specs.Instants.{Round}
+use Rattle.rules.specs.Residual.{residual, _⇝_}
+use Rattle.rules.specs.View.{view}
+
+-- from the instructions that the threads are to run, and a scheduler: a round of so many execution steps can be derived, and it is the
+-- only one
+pub record Gives (run : ℕ → Instruction) (σ : Scheduler) (passes : ℕ) (run′ : ℕ → Instruction) (σ′ : Scheduler) : Type 0 where
+  pub derived : Round passes run σ run′ σ′
+  pub noOther :
+      (n : ℕ) (run″ : ℕ → Instruction) (σ″ : Scheduler) →
+      Round n run σ run″ σ″ →
+      (n ≡ passes) × (run″ ≡ run′) × (σ″ ≡ σ′)
+
+module _ (book : List ℕ) (a : Accepted book) where
+  -- each thread is to run what is left of its routine where the game has it, but for nothings in front
+  abbrev pub Stands : (ℕ → Instruction) → Game → Type 0
+  Stands run g = (r : ℕ) (h : r < routinesOf book) → run r ⇝ residual book a r h (positionOf (routineAt g r))
+
+  -- the threads of a game: each is to run what is left of its routine
+  abbrev pub threadsOf : Game → ℕ → Instruction
+  threadsOf g r = dite (decLt r (routinesOf book)) (λ h. residual book a r h (positionOf (routineAt g r))) (λ n. nothing)
+
+  -- The answer of an accepted round is what the rules give. The threads and the scheduler at its start are those of the game in state s,
+  -- whatever signals, numbers and flags an earlier round left there ("Signals and numbers of a round are not kept in the game."); at its end
+  -- they are those of the answer's game, with the marks that the answer counts and the buffer holds, and as many execution steps as the
+  -- answer has passes.
+  pub record ByTheRules (run : ℕ → Instruction) (s : State) (buffer : List ℤ) (answer : Answer) : Type 0 where
+    pub last : State
+    pub marks : List (ℕ × ℤ)
+    pub run′ : ℕ → Instruction
+    pub given : Gives run (view s []) (answer .passes) run′ (view last marks)
+    pub game : answer .game ≡ last .game
+    pub counts : answer .game .counts ≡ s .game .counts
+    pub stands : Stands run′ (answer .game)
+    pub counted : answer .marks ≡ length marks
+    pub buffered : answer .buffer ≡ written marks ++ drop (numbersPerMark * length marks) buffer

@@ -1,0 +1,161 @@
+-- Rules 33 to 38 of the paper, and section 5.4: threads, execution steps, instants, and how they follow each other.
+use Prim.Native.Nat.{ℕ, suc}
+use mathlib.Core.Path.{_≡_}
+use mathlib.Core.Bool.{Bool, true, false, _&&_, _||_, not}
+use mathlib.Core.List.{List, [], _∷_, _++_, map, zipWith}
+use mathlib.Core.Logic.{_≢_, _⊎_}
+use lib.Dec.{eqb}
+use lib.ListN.{getD, set}
+use Rattle.numbers.specs.Choice.{if_then_else_}
+use Rattle.rules.specs.Instructions.{Status, TERM, COOP, CONT, term, Instruction}
+use Rattle.rules.specs.Schedulers.{Stage, notStarted, is, stopped, Scheduler, withCurrent, withThreads, has, statusOf, isTerminated}
+use Rattle.rules.specs.Schedulers.{moved, withEvent}
+use Rattle.rules.specs.Rules.{⟨_&_⟩⟶[_]⟨_&_⟩}
+
+-- t[run := inst], for the instructions of all threads
+unfoldable pub runs : (ℕ → Instruction) → ℕ → Instruction → ℕ → Instruction
+runs run t inst u = if eqb u t then inst else run u
+
+-- t[status := α]
+abbrev pub withStatus : ℕ → Status → Scheduler → Scheduler
+withStatus t α σ = withThreads σ (record { status = set (σ .threads .status) t (is α); susp = σ .threads .susp })
+
+-- sched″ of rule 34: sched′[events += term(t)][move := true] if α = TERM, and sched′ otherwise
+abbrev pub withTermination : Status → ℕ → Scheduler → Scheduler
+withTermination TERM t σ = moved (withEvent (term t) σ)
+withTermination COOP t σ = σ
+withTermination CONT t σ = σ
+
+-- b of rule 34: false if α = CONT, and true otherwise
+abbrev pub isFinished : Status → Bool
+isFinished TERM = true
+isFinished COOP = true
+isFinished CONT = false
+
+-- 5.1 Thread: what the thread t does; run gives each thread's instruction, and b is the Boolean above the arrow. The paper's env″ in rule
+-- 34 is its env′.
+pub data Thread (t : ℕ) : (ℕ → Instruction) → Scheduler → Bool → (ℕ → Instruction) → Scheduler → Type 0 where
+  rule33 :
+      {run : ℕ → Instruction} {σ : Scheduler} →
+      (has (σ .threads .susp) t ≡ true) ⊎ (statusOf σ t ≢ is CONT) →
+      Thread t run σ true run σ
+  rule34 :
+      {run : ℕ → Instruction} {inst : Instruction} {σ σ′ : Scheduler} {α : Status} →
+      has (σ .threads .susp) t ≡ false → statusOf σ t ≡ is CONT → ⟨ run t & σ ⟩⟶[ α ]⟨ inst & σ′ ⟩ →
+      Thread t run σ (isFinished α) (runs run t inst) (withTermination α t (withStatus t α σ′))
+
+-- threads in turn, and whether all have finished
+pub data InTurn : List ℕ → (ℕ → Instruction) → Scheduler → Bool → (ℕ → Instruction) → Scheduler → Type 0 where
+  none : {run : ℕ → Instruction} {σ : Scheduler} → InTurn [] run σ true run σ
+  next :
+      {t : ℕ} {ts : List ℕ} {run run′ run″ : ℕ → Instruction} {σ σ′ σ″ : Scheduler} {b c : Bool} →
+      Thread t run σ b run′ σ′ → InTurn ts run′ σ′ c run″ σ″ →
+      InTurn (t ∷ ts) run σ (b && c) run″ σ″
+
+-- 5.2 Scheduler Execution Step; where rule 36 writes inst, the thread is meant
+pub data ExecutionStep : (ℕ → Instruction) → Scheduler → Bool → (ℕ → Instruction) → Scheduler → Type 0 where
+  rule35 : {run : ℕ → Instruction} {σ : Scheduler} → σ .actual ≡ [] → ExecutionStep run σ true run σ
+  rule36 :
+      {t : ℕ} {ts : List ℕ} {run run′ : ℕ → Instruction} {σ σ′ : Scheduler} {b : Bool} →
+      σ .actual ≡ t ∷ ts → InTurn (t ∷ ts) run σ b run′ σ′ →
+      ExecutionStep run σ b run′ σ′
+
+-- sched″ of rule 38: move = false; eoi = true if sched′.move = false, and eoi = false otherwise. Document 01: "Section 3.2 speaks of a
+-- third cycle for two routines that signal each other; rules 36 and 38 need two."
+abbrev pub again : Scheduler → Scheduler
+again σ =
+    withCurrent σ (
+    let c = σ .current in
+    record { events = c .events; terms = c .terms; values = c .values; eoi = not (c .move); move = false }
+    )
+
+-- 5.3 Instant; the number counts its execution steps
+pub data Instant : ℕ → (ℕ → Instruction) → Scheduler → (ℕ → Instruction) → Scheduler → Type 0 where
+  rule37 : {run run′ : ℕ → Instruction} {σ σ′ : Scheduler} → ExecutionStep run σ true run′ σ′ → Instant 1 run σ run′ σ′
+  rule38 :
+      {n : ℕ} {run run′ run″ : ℕ → Instruction} {σ σ′ σ″ : Scheduler} →
+      ExecutionStep run σ false run′ σ′ → Instant n run′ (again σ′) run″ σ″ →
+      Instant (suc n) run σ run″ σ″
+
+-- those of some threads that pass a test
+unfoldable pub only : (ℕ → Bool) → List ℕ → List ℕ
+only test [] = []
+only test (t ∷ ts) = let others = only test ts in if test t then t ∷ others else others
+
+-- some threads at a stage
+unfoldable pub allAt : Stage → List ℕ → List Stage → List Stage
+allAt x [] l = l
+allAt x (t ∷ ts) l = allAt x ts (set l t x)
+
+-- CONT or COOP: document 01's stages 1 and 2
+abbrev pub isUnderWay : Stage → Bool
+isUnderWay notStarted = false
+isUnderWay (is TERM) = false
+isUnderWay (is COOP) = true
+isUnderWay (is CONT) = true
+isUnderWay stopped = false
+
+abbrev pub noFlags : List Bool → List Bool
+noFlags l = map (λ b. false) l
+
+-- 5.4: Next(sched), the eight actions in sequence. Those that touch the list of threads or their status are chained; each of the others
+-- touches a component of its own.
+unfoldable pub chained : Scheduler → Scheduler
+chained σ =
+    let o = σ .orders in
+    let at : List Stage → ℕ → Stage = λ l t. getD l t notStarted in
+    -- 1. "concatenate to_start to actual"; document 01: "Starting gives stage 1."
+    let actual₁ = σ .actual ++ o .toStart in
+    let status₁ = allAt (is CONT) (o .toStart) (σ .threads .status) in
+    -- 3. "remove elements of to_stop from actual"; document 01: "Stopping gives stage 4 to a listed routine in stage 1 or 2 and to no
+    -- other."
+    let actual₃ = only (λ t. not (has (o .toStop) t)) actual₁ in
+    let status₃ = allAt stopped (only (λ t. has (o .toStop) t && isUnderWay (at status₁ t)) actual₁) status₁ in
+    -- 6. "for each thread t ∈ actual, remove it if t.status is TERM, and otherwise set t.status to CONT"
+    let actual₆ = only (λ t. not (isTerminated (at status₃ t))) actual₃ in
+    record {
+      actual = actual₆;
+      current =
+          record {
+            -- 2. "replace events by to_broadcast"
+            events = o .toBroadcast;
+            -- 3. "for each t ∈ to_stop, add event term(t) to events"; document 01: "The end signal of each routine in the stop set is
+            -- present in the new round either way."
+            terms = o .toStop;
+            -- 8.
+            values = [];
+            -- 7. "set the flag eoi to false"
+            eoi = false;
+            move = σ .current .move;
+          };
+      -- 8. "reset to_start, to_broadcast, to_stop, to_resume, to_suspend, and values to empty"
+      orders =
+          record {
+            toBroadcast = noFlags (o .toBroadcast);
+            toStart = [];
+            toStop = noFlags (o .toStop);
+            toSuspend = noFlags (o .toSuspend);
+            toResume = noFlags (o .toResume);
+          };
+      threads =
+          record {
+            status = allAt (is CONT) actual₆ status₃;
+            -- 4. and 5. "for each t ∈ to_resume, set t.susp to false", "for each t ∈ to_suspend, set t.susp to true"; document 01: "so a
+            -- resume comes before a suspend"
+            susp = zipWith _||_ (zipWith (λ s r. s && not r) (σ .threads .susp) (o .toResume)) (o .toSuspend);
+          };
+      env = σ .env;
+    }
+
+-- Document 01: "The move flag is clear when a round's first pass begins, as section 3.2 says; rules 37 and 38 alone would carry it over. A
+-- signal given by a step and a routine's end in a pass each set it, and nothing else does, the eight actions included."
+abbrev pub unmoved : Scheduler → Scheduler
+unmoved σ =
+    withCurrent σ (
+    let c = σ .current in
+    record { events = c .events; terms = c .terms; values = c .values; eoi = c .eoi; move = false }
+    )
+
+-- "round = one chaining step and then one instant"
+abbrev pub Round : ℕ → (ℕ → Instruction) → Scheduler → (ℕ → Instruction) → Scheduler → Type 0
+Round n run σ run′ σ′ = Instant n run (unmoved (chained σ)) run′ σ′

@@ -1,0 +1,55 @@
+-- Section 2.2 of the paper: the syntax of instructions.
+use Prim.Native.Nat.{ℕ}
+use lib.IntN.{ℤ}
+
+-- 2.1: "Status is TERM when the thread is totally terminated; it is COOP when the thread cooperates", and CONT when "execution has to be
+-- continued during the current instant".
+pub data Status : Type 0 where
+  TERM COOP CONT : Status
+
+-- an event of the program, or term(t), "used to signal the total termination of t"
+pub data Event : Type 0 where
+  signal : ℕ → Event
+  term : ℕ → Event
+
+-- "Calls are means to change the environment": document 01's ops 0 to 3. A mark names the routine that leaves it.
+pub data Call : Type 0 where
+  mark : ℕ → ℤ → Call
+  set : ℕ → ℤ → Call
+  add : ℕ → ℤ → Call
+  take : ℕ → ℕ → Call
+
+-- exp, document 01's test: "counter against n"
+pub record Expression : Type 0 where
+  pub counter : ℕ
+  pub relation : ℕ
+  pub number : ℤ
+
+infixr 5 _then_
+pub data Instruction : Type 0 where
+  -- "nothing is the instruction that does nothing" (section 4.1)
+  nothing : Instruction
+  -- basic instructions; a sequence is binary, as in section 4.2
+  call : Call → Instruction
+  _then_ : Instruction → Instruction → Instruction
+  while : Expression → Instruction → Instruction
+  -- section 4.3's auxiliary while: the expression, what is left of the body, the initial body
+  whileInst : Expression → Instruction → Instruction → Instruction
+  ifElse : Expression → Instruction → Instruction → Instruction
+  -- synchronizing instructions; the value generated is a counter's content
+  cooperate : Instruction
+  await : Event → Instruction
+  generate : ℕ → Instruction
+  generateValue : ℕ → ℕ → Instruction
+  join : ℕ → Instruction
+  -- control instructions
+  create : ℕ → Instruction
+  stop : ℕ → Instruction
+  suspend : ℕ → Instruction
+  resume : ℕ → Instruction
+  -- timed instructions; a number of 0 or less is 0
+  cooperateN : ℕ → Instruction
+  awaitN : Event → ℕ → Instruction
+  joinN : ℕ → ℕ → Instruction
+  -- the event, the counter that takes the value, k; the thread, which the paper names too, is the one that runs it
+  getValue : ℕ → ℕ → ℕ → Instruction

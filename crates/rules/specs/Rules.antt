@@ -1,0 +1,134 @@
+-- Rules 1 to 32 of the paper: inst, sched, env ⟶ inst′, sched′, env′ with the status α above the arrow; here the scheduler holds the
+-- environment. Each constructor has its rule's number. Where document 01 reads a rule otherwise, its sentence stands beside it.
+use Prim.Native.Nat.{ℕ, _-_, _≤_, _<_}
+use mathlib.Core.Path.{_≡_}
+use mathlib.Core.Bool.{true, false}
+use mathlib.Core.Logic.{_≢_, _⊎_}
+use lib.ListN.{length}
+use Rattle.numbers.specs.Relations.{Holds}
+use Rattle.rules.specs.Instructions.{Status, TERM, COOP, CONT, Event, signal, term, Call, Expression, Instruction, nothing, call}
+use Rattle.rules.specs.Instructions.{_then_, while, whileInst, ifElse, cooperate, await, generate, generateValue, join, create, stop}
+use Rattle.rules.specs.Instructions.{suspend, resume, cooperateN, awaitN, joinN, getValue}
+use Rattle.rules.specs.Schedulers.{Scheduler, statusOf, isTerminated, isPresent, moved, withEvent, withValue, valuesOf, content}
+use Rattle.rules.specs.Schedulers.{called, returned, withStart, withStop, withSuspend, withResume}
+
+-- the expression is true in the environment; it changes nothing there
+abbrev pub IsTrue : Expression → Scheduler → Type 0
+IsTrue x σ = Holds (x .relation) (content σ (x .counter)) (x .number)
+
+abbrev pub Present : Event → Scheduler → Type 0
+Present e σ = isPresent e σ ≡ true
+
+abbrev pub Absent : Event → Scheduler → Type 0
+Absent e σ = isPresent e σ ≡ false
+
+-- t.status = TERM, and t.status ≠ TERM
+abbrev pub Terminated : ℕ → Scheduler → Type 0
+Terminated t σ = isTerminated (statusOf σ t) ≡ true
+
+abbrev pub Unterminated : ℕ → Scheduler → Type 0
+Unterminated t σ = isTerminated (statusOf σ t) ≡ false
+
+infix 1 ⟨_&_⟩⟶[_]⟨_&_⟩
+pub data ⟨_&_⟩⟶[_]⟨_&_⟩ : Instruction → Scheduler → Status → Instruction → Scheduler → Type 0 where
+  -- 4.1 Call
+  rule1 : {c : Call} {σ : Scheduler} → ⟨ call c & σ ⟩⟶[ TERM ]⟨ nothing & called c σ ⟩
+  rule2 : {σ : Scheduler} → ⟨ nothing & σ ⟩⟶[ TERM ]⟨ nothing & σ ⟩
+  -- 4.2 Sequence
+  rule3 :
+      {i i′ j j′ : Instruction} {σ σ′ σ″ : Scheduler} {α : Status} →
+      ⟨ i & σ ⟩⟶[ TERM ]⟨ i′ & σ′ ⟩ → ⟨ j & σ′ ⟩⟶[ α ]⟨ j′ & σ″ ⟩ →
+      ⟨ i then j & σ ⟩⟶[ α ]⟨ j′ & σ″ ⟩
+  rule4 :
+      {i i′ j : Instruction} {σ σ′ : Scheduler} {α : Status} →
+      ⟨ i & σ ⟩⟶[ α ]⟨ i′ & σ′ ⟩ → α ≢ TERM →
+      ⟨ i then j & σ ⟩⟶[ α ]⟨ i′ then j & σ′ ⟩
+  -- 4.3 While Loop
+  rule5 : {x : Expression} {i : Instruction} {σ : Scheduler} → (IsTrue x σ → ⊥) → ⟨ while x i & σ ⟩⟶[ TERM ]⟨ nothing & σ ⟩
+  rule6 :
+      {x : Expression} {i i′ : Instruction} {σ σ′ : Scheduler} {α : Status} →
+      IsTrue x σ → ⟨ whileInst x i i & σ ⟩⟶[ α ]⟨ i′ & σ′ ⟩ →
+      ⟨ while x i & σ ⟩⟶[ α ]⟨ i′ & σ′ ⟩
+  rule7 :
+      {x : Expression} {i i′ i″ initial : Instruction} {σ σ′ σ″ : Scheduler} {α : Status} →
+      ⟨ i & σ ⟩⟶[ TERM ]⟨ i′ & σ′ ⟩ → ⟨ while x initial & σ′ ⟩⟶[ α ]⟨ i″ & σ″ ⟩ →
+      ⟨ whileInst x i initial & σ ⟩⟶[ α ]⟨ i″ & σ″ ⟩
+  rule8 :
+      {x : Expression} {i i′ initial : Instruction} {σ σ′ : Scheduler} {α : Status} →
+      ⟨ i & σ ⟩⟶[ α ]⟨ i′ & σ′ ⟩ → α ≢ TERM →
+      ⟨ whileInst x i initial & σ ⟩⟶[ α ]⟨ whileInst x i′ initial & σ′ ⟩
+  -- 4.4 If
+  rule9 :
+      {x : Expression} {i i′ j : Instruction} {σ σ′ : Scheduler} {α : Status} →
+      IsTrue x σ → ⟨ i & σ ⟩⟶[ α ]⟨ i′ & σ′ ⟩ →
+      ⟨ ifElse x i j & σ ⟩⟶[ α ]⟨ i′ & σ′ ⟩
+  rule10 :
+      {x : Expression} {i j j′ : Instruction} {σ σ′ : Scheduler} {α : Status} →
+      (IsTrue x σ → ⊥) → ⟨ j & σ ⟩⟶[ α ]⟨ j′ & σ′ ⟩ →
+      ⟨ ifElse x i j & σ ⟩⟶[ α ]⟨ j′ & σ′ ⟩
+  -- 4.5 Cooperate
+  rule11 : {σ : Scheduler} → ⟨ cooperate & σ ⟩⟶[ COOP ]⟨ nothing & σ ⟩
+  -- 4.6 Generate
+  rule12 : {e : ℕ} {σ : Scheduler} → ⟨ generate e & σ ⟩⟶[ TERM ]⟨ nothing & moved (withEvent (signal e) σ) ⟩
+  rule13 :
+      {e c : ℕ} {σ : Scheduler} →
+      ⟨ generateValue e c & σ ⟩⟶[ TERM ]⟨ nothing & withValue e (content σ c) (moved (withEvent (signal e) σ)) ⟩
+  -- 4.7 Await
+  rule14 : {e : Event} {σ : Scheduler} → Present e σ → ⟨ await e & σ ⟩⟶[ TERM ]⟨ nothing & σ ⟩
+  rule15 : {e : Event} {σ : Scheduler} → Absent e σ → σ .current .eoi ≡ false → ⟨ await e & σ ⟩⟶[ CONT ]⟨ await e & σ ⟩
+  rule16 : {e : Event} {σ : Scheduler} → Absent e σ → σ .current .eoi ≡ true → ⟨ await e & σ ⟩⟶[ COOP ]⟨ await e & σ ⟩
+  -- 4.8 Join. Rule 18 is in two parts, since document 01 reads it otherwise where the wait goes on: "A join left waiting asks again at
+  -- every try, by rules 17 and 28, whether the routine has ended. Rules 18 and 29 taken literally would leave only the wait for the end
+  -- signal".
+  rule17 : {t : ℕ} {σ : Scheduler} → Terminated t σ → ⟨ join t & σ ⟩⟶[ TERM ]⟨ nothing & σ ⟩
+  rule18 :
+      {t : ℕ} {i : Instruction} {σ σ′ : Scheduler} →
+      Unterminated t σ → ⟨ await (term t) & σ ⟩⟶[ TERM ]⟨ i & σ′ ⟩ →
+      ⟨ join t & σ ⟩⟶[ TERM ]⟨ i & σ′ ⟩
+  rule18-again :
+      {t : ℕ} {i : Instruction} {σ σ′ : Scheduler} {α : Status} →
+      Unterminated t σ → ⟨ await (term t) & σ ⟩⟶[ α ]⟨ i & σ′ ⟩ → α ≢ TERM →
+      ⟨ join t & σ ⟩⟶[ α ]⟨ join t & σ′ ⟩
+  -- 4.9 Create, 4.10 Stop, 4.11 Suspend, 4.12 Resume. Document 01 on rule 19: "A start of a routine that isn't in stage 0, or is already to
+  -- start, adds nothing."
+  rule19 : {t : ℕ} {σ : Scheduler} → ⟨ create t & σ ⟩⟶[ TERM ]⟨ nothing & withStart t σ ⟩
+  rule20 : {t : ℕ} {σ : Scheduler} → ⟨ stop t & σ ⟩⟶[ TERM ]⟨ nothing & withStop t σ ⟩
+  rule21 : {t : ℕ} {σ : Scheduler} → ⟨ suspend t & σ ⟩⟶[ TERM ]⟨ nothing & withSuspend t σ ⟩
+  rule22 : {t : ℕ} {σ : Scheduler} → ⟨ resume t & σ ⟩⟶[ TERM ]⟨ nothing & withResume t σ ⟩
+  -- 4.13 Cooperate_n
+  rule23 : {k : ℕ} {σ : Scheduler} → k ≤ 0 → ⟨ cooperateN k & σ ⟩⟶[ TERM ]⟨ nothing & σ ⟩
+  rule24 : {k : ℕ} {σ : Scheduler} → 0 < k → ⟨ cooperateN k & σ ⟩⟶[ COOP ]⟨ cooperateN (k - 1) & σ ⟩
+  -- 4.14 Await_n
+  rule25 : {e : Event} {k : ℕ} {σ : Scheduler} → Present e σ ⊎ (k ≤ 0) → ⟨ awaitN e k & σ ⟩⟶[ TERM ]⟨ nothing & σ ⟩
+  rule26 :
+      {e : Event} {k : ℕ} {σ : Scheduler} →
+      Absent e σ → 0 < k → σ .current .eoi ≡ false →
+      ⟨ awaitN e k & σ ⟩⟶[ CONT ]⟨ awaitN e k & σ ⟩
+  rule27 :
+      {e : Event} {k : ℕ} {σ : Scheduler} →
+      Absent e σ → 0 < k → σ .current .eoi ≡ true →
+      ⟨ awaitN e k & σ ⟩⟶[ COOP ]⟨ awaitN e (k - 1) & σ ⟩
+  -- 4.15 Join_n. Rule 29 is read as rule 18 is.
+  rule28 : {t k : ℕ} {σ : Scheduler} → Terminated t σ ⊎ (k ≤ 0) → ⟨ joinN t k & σ ⟩⟶[ TERM ]⟨ nothing & σ ⟩
+  rule29 :
+      {t k : ℕ} {i : Instruction} {σ σ′ : Scheduler} →
+      Unterminated t σ → ⟨ awaitN (term t) k & σ ⟩⟶[ TERM ]⟨ i & σ′ ⟩ →
+      ⟨ joinN t k & σ ⟩⟶[ TERM ]⟨ i & σ′ ⟩
+  rule29-again :
+      {t k k′ : ℕ} {σ σ′ : Scheduler} {α : Status} →
+      Unterminated t σ → ⟨ awaitN (term t) k & σ ⟩⟶[ α ]⟨ awaitN (term t) k′ & σ′ ⟩ → α ≢ TERM →
+      ⟨ joinN t k & σ ⟩⟶[ α ]⟨ joinN t k′ & σ′ ⟩
+  -- 4.16 Generated Values
+  rule30 :
+      {e c k : ℕ} {σ : Scheduler} →
+      k ≤ length (valuesOf σ e) →
+      ⟨ getValue e c k & σ ⟩⟶[ TERM ]⟨ nothing & returned e c k σ ⟩
+  rule31 :
+      {e c k : ℕ} {σ : Scheduler} →
+      length (valuesOf σ e) < k → σ .current .eoi ≡ false →
+      ⟨ getValue e c k & σ ⟩⟶[ CONT ]⟨ getValue e c k & σ ⟩
+  -- Document 01 on rule 32's place: "a reading that stayed missing, leaves the place on the step that follows it in the book".
+  rule32 :
+      {e c k : ℕ} {σ : Scheduler} →
+      length (valuesOf σ e) < k → σ .current .eoi ≡ true →
+      ⟨ getValue e c k & σ ⟩⟶[ COOP ]⟨ nothing & σ ⟩

@@ -1,0 +1,211 @@
+-- Sections 2.1 and 2.3 of the paper: schedulers, with their threads and the environment, and what the rules change in them.
+-- A set of events or threads is a list of flags, one for each number there can be; a vector is a list.
+use Prim.Native.Nat.{ℕ, _-_}
+use mathlib.Core.Bool.{Bool, true, false, _&&_, _||_, not}
+use mathlib.Core.List.{List, [], _∷_, _++_}
+use lib.Dec.{eqb}
+use lib.ListN.{getD, set}
+use lib.IntN.{ℤ, pos}
+use Rattle.numbers.specs.Choice.{if_then_else_}
+use Rattle.numbers.specs.Numbers.{sumOf}
+use Rattle.rules.specs.Instructions.{Status, TERM, COOP, CONT, Event, signal, term, Call, mark, set as set-to, add, take}
+
+-- a thread's status; document 01 also knows threads that are not started and threads that were stopped: stages 0 and 4
+pub data Stage : Type 0 where
+  notStarted : Stage
+  is : Status → Stage
+  stopped : Stage
+
+-- t.status and t.susp of each thread; t.run is kept apart, by the rules for threads
+pub record Threads : Type 0 where
+  pub status : List Stage
+  pub susp : List Bool
+
+-- what the instant has: the generated events, with term(t) for each thread t apart; the values, each behind its event; the flags
+pub record Current : Type 0 where
+  pub events : List Bool
+  pub terms : List Bool
+  pub values : List (ℕ × ℤ)
+  pub eoi : Bool
+  pub move : Bool
+
+-- what is to be done at the next instant
+pub record Orders : Type 0 where
+  pub toBroadcast : List Bool
+  pub toStart : List ℕ
+  pub toStop : List Bool
+  pub toSuspend : List Bool
+  pub toResume : List Bool
+
+-- the counters, and the marks made
+pub record Environment : Type 0 where
+  pub counters : List ℤ
+  pub marks : List (ℕ × ℤ)
+
+pub record Scheduler : Type 0 where
+  pub actual : List ℕ
+  pub current : Current
+  pub orders : Orders
+  pub threads : Threads
+  pub env : Environment
+
+abbrev pub withCurrent : Scheduler → Current → Scheduler
+withCurrent σ x = record { actual = σ .actual; current = x; orders = σ .orders; threads = σ .threads; env = σ .env }
+
+abbrev pub withOrders : Scheduler → Orders → Scheduler
+withOrders σ x = record { actual = σ .actual; current = σ .current; orders = x; threads = σ .threads; env = σ .env }
+
+abbrev pub withThreads : Scheduler → Threads → Scheduler
+withThreads σ x = record { actual = σ .actual; current = σ .current; orders = σ .orders; threads = x; env = σ .env }
+
+abbrev pub withEnv : Scheduler → Environment → Scheduler
+withEnv σ x = record { actual = σ .actual; current = σ .current; orders = σ .orders; threads = σ .threads; env = x }
+
+-- x is in a set; a set with x
+abbrev pub has : List Bool → ℕ → Bool
+has l x = getD l x false
+
+abbrev pub plus : List Bool → ℕ → List Bool
+plus l x = set l x true
+
+-- t is in a vector
+unfoldable pub isAmong : ℕ → List ℕ → Bool
+isAmong t [] = false
+isAmong t (u ∷ us) = eqb t u || isAmong t us
+
+-- t.status
+abbrev pub statusOf : Scheduler → ℕ → Stage
+statusOf σ t = getD (σ .threads .status) t notStarted
+
+abbrev pub isTerminated : Stage → Bool
+isTerminated notStarted = false
+isTerminated (is TERM) = true
+isTerminated (is COOP) = false
+isTerminated (is CONT) = false
+isTerminated stopped = false
+
+abbrev pub isNotStarted : Stage → Bool
+isNotStarted notStarted = true
+isNotStarted (is α) = false
+isNotStarted stopped = false
+
+-- event ∈ sched.events
+abbrev pub isPresent : Event → Scheduler → Bool
+isPresent (signal e) σ = has (σ .current .events) e
+isPresent (term t) σ = has (σ .current .terms) t
+
+-- sched[move := true]
+abbrev pub moved : Scheduler → Scheduler
+moved σ =
+    withCurrent σ (
+    let c = σ .current in
+    record { events = c .events; terms = c .terms; values = c .values; eoi = c .eoi; move = true }
+    )
+
+-- sched[events += event]
+abbrev pub withEvent : Event → Scheduler → Scheduler
+withEvent (signal e) σ =
+    withCurrent σ (
+    let c = σ .current in
+    record { events = plus (c .events) e; terms = c .terms; values = c .values; eoi = c .eoi; move = c .move }
+    )
+withEvent (term t) σ =
+    withCurrent σ (
+    let c = σ .current in
+    record { events = c .events; terms = plus (c .terms) t; values = c .values; eoi = c .eoi; move = c .move }
+    )
+
+-- sched[values(event) += v]
+abbrev pub withValue : ℕ → ℤ → Scheduler → Scheduler
+withValue e v σ =
+    withCurrent σ (
+    let c = σ .current in
+    record { events = c .events; terms = c .terms; values = c .values ++ ((e, v) ∷ []); eoi = c .eoi; move = c .move }
+    )
+
+-- sched.values(event)
+unfoldable pub valuesFrom : List (ℕ × ℤ) → ℕ → List ℤ
+valuesFrom [] e = []
+valuesFrom ((f, v) ∷ l) e = let others = valuesFrom l e in if eqb f e then v ∷ others else others
+
+abbrev pub valuesOf : Scheduler → ℕ → List ℤ
+valuesOf σ e = valuesFrom (σ .current .values) e
+
+-- a counter's content
+abbrev pub content : Scheduler → ℕ → ℤ
+content σ c = getD (σ .env .counters) c (pos 0)
+
+-- a counter with another content
+abbrev pub put : ℕ → ℤ → Scheduler → Scheduler
+put c v σ = withEnv σ (record { counters = set (σ .env .counters) c v; marks = σ .env .marks })
+
+-- env′ of rule 1: "writes a mark: routine, n", "counter becomes n; n is added", "b's content is added to a". A sum is what AddsUp of
+-- crates/numbers says it is.
+abbrev pub called : Call → Scheduler → Scheduler
+called (mark r n) σ = withEnv σ (record { counters = σ .env .counters; marks = σ .env .marks ++ ((r, n) ∷ []) })
+called (set-to c n) σ = put c n σ
+called (add c n) σ = put c (sumOf (content σ c) n .sum) σ
+called (take c d) σ = put c (sumOf (content σ c) (content σ d) .sum) σ
+
+-- env′ of rule 30, "transformed by the return of the value": "the k-th number goes to b"
+abbrev pub returned : ℕ → ℕ → ℕ → Scheduler → Scheduler
+returned e c k σ = put c (getD (valuesOf σ e) (k - 1) (pos 0)) σ
+
+-- sched[to_start += t], unless t was started or is there already
+abbrev pub withStart : ℕ → Scheduler → Scheduler
+withStart t σ =
+    let o = σ .orders in
+    if isNotStarted (statusOf σ t) && not (isAmong t (o .toStart))
+    then
+    withOrders σ (
+    record {
+      toBroadcast = o .toBroadcast;
+      toStart = o .toStart ++ (t ∷ []);
+      toStop = o .toStop;
+      toSuspend = o .toSuspend;
+      toResume = o .toResume;
+    }
+    )
+    else σ
+
+-- sched[to_stop += t]
+abbrev pub withStop : ℕ → Scheduler → Scheduler
+withStop t σ =
+    withOrders σ (
+    let o = σ .orders in
+    record {
+      toBroadcast = o .toBroadcast;
+      toStart = o .toStart;
+      toStop = plus (o .toStop) t;
+      toSuspend = o .toSuspend;
+      toResume = o .toResume;
+    }
+    )
+
+-- sched[to_suspend += t]
+abbrev pub withSuspend : ℕ → Scheduler → Scheduler
+withSuspend t σ =
+    withOrders σ (
+    let o = σ .orders in
+    record {
+      toBroadcast = o .toBroadcast;
+      toStart = o .toStart;
+      toStop = o .toStop;
+      toSuspend = plus (o .toSuspend) t;
+      toResume = o .toResume;
+    }
+    )
+
+-- sched[to_resume += t]
+abbrev pub withResume : ℕ → Scheduler → Scheduler
+withResume t σ =
+    withOrders σ (
+    let o = σ .orders in
+    record {
+      toBroadcast = o .toBroadcast;
+      toStart = o .toStart;
+      toStop = o .toStop;
+      toSuspend = o .toSuspend;
+      toResume = plus (o .toResume) t;
+    }
+    )
