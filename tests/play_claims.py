@@ -1,0 +1,671 @@
+#!/usr/bin/env python3
+"""Claims in antt that the definitions of crates/round/specs answer a script of plays as listed, and has the claims checked.
+
+usage: play_claims.py PLAYS.IN PLAYS.OUT [BOOKS]
+
+BOOKS says how many of the script's books are taken, the first ones; without it all are. The script's form is that of the vectors'
+plays.in and plays.out. A temporary copy of the repository's crates gets two more modules in the specs of the crate `round`: `Script`
+carries commands out by the definitions, and `Plays`, written anew for each group of books, has a claim on each book's verdict and one on
+each run of commands, proved by evaluation: the lines that they answer are the listed ones. `rt dev round` checks them there.
+
+    read     bookVerdict; the other commands take the verdict from this claim, by laws of `Script`, so that it is computed once
+    show     shown
+    setup    setUp: its verdict; its game is the next one
+    order    ordered: its verdict; its game is the next one
+    round    answer, with a buffer of zeros: verdict, passes, count of marks, marks, the rest of the buffer; its game is the next one
+    log      of the last accepted round: its turns, each as the byte that stands for it
+    facts    of that round: its passes, the signals told as given, the routines told as ended, the signal steps of the routines that are
+             listed once the eight actions are done; that demand 3 held is not claimed, but the listed line must say so
+    dump     the game's fields
+    poke     overwrites a field. The definitions' game holds no number below 0 and no flag but 0 and 1: a poke of such a value is skipped,
+             and so is each order, round and dump until the field is overwritten; a skipped order or round must be listed with refusal 9
+
+A run begins where the game is set up, unless it looks at a game or a round of earlier commands. The last line says how much agrees
+(exit 0), or which book and which command comes first that does not (exit 1), or which claims take more steps than antt allows (exit 3).
+"""
+import os
+import re
+import shutil
+import subprocess
+import sys
+import tempfile
+
+from game_lines import DUMP, FLAGS, answers, holds
+
+ROOT = os.path.dirname(os.path.dirname(os.path.abspath(__file__)))
+FIELDS = ("stage", "place", "left", "susp", "begun", "tostop", "tosuspend", "toresume")
+FIELDS += ("R", "E", "C", "listed_len", "tostart_len", "listed", "tostart", "broadcast")
+
+SCRIPT = """\
+-- Scripts of plays: each command carried out by the definitions, with the lines of numbers that it answers.
+use Prim.Native.Nat.{ℕ, zero, suc, _+_, _*_}
+use native.Mathlib.Omega.{arith}
+use mathlib.Core.Path.{_≡_, refl, _∙_, ap, subst}
+use mathlib.Core.Bool.{Bool, true, false, _&&_, _||_, not}
+use mathlib.Core.List.{List, [], _∷_, _++_, map}
+use lib.Dec.{eqb, ltb}
+use lib.ListN.{length, getD, set, take, drop, replicate}
+use lib.IntN.{ℤ, pos}
+use Rattle.numbers.specs.Choice.{if_then_else_}
+use Rattle.kinds.specs.Steps.{opAt, stepAt}
+use Rattle.book.specs.declared.Verdict.{Verdict}
+use Rattle.book.specs.Verdicts.{accepted, _orElse_, firstRefusal}
+use Rattle.book.specs.Layout.{mostRoutines, mostSignals, routinesOf, stepsOf, layoutVerdict, directoryVerdict}
+use Rattle.book.specs.Book.{countsOf, stepVerdict, stepsPart, stepsVerdict, nestingVerdict, pausingVerdict, bookVerdict}
+use Rattle.book.specs.Book.{routineSteps, shown}
+use Rattle.game.specs.declared.Routine.{Routine}
+use Rattle.game.specs.declared.Line.{Line}
+use Rattle.game.specs.declared.Game.{Game}
+use Rattle.game.specs.Lines.{entriesOf}
+use Rattle.game.specs.Game.{blankGame, routineAt, isBroadcast, withCounter}
+use Rattle.orders.specs.declared.Outcome.{Outcome}
+use Rattle.orders.specs.SetUp.{unlessRefused, newGame, setUp}
+use Rattle.orders.specs.Orders.{fitVerdict, numberVerdict, orderVerdict, obeyed, ordered}
+use Rattle.round.specs.declared.Ending.the-variants.{Ended, Rested, Missed, Continued}
+use Rattle.round.specs.State.{Happening, gave, ended, missing, past, marked}
+use Rattle.round.specs.Actions.{atStart}
+use Rattle.round.specs.Jumps.{sizeOf}
+use Rattle.round.specs.Rounds.{Turn, passedOver, took, round}
+use Rattle.round.specs.Rounds as rounds
+use Rattle.round.specs.Answers.{numbersPerMark, spaceVerdict, numbersVerdict, roundVerdict, Answer, turnedDown, playedOut, answer}
+
+-- A book's verdict, from those of its parts: the steps of a large book are claimed in slices.
+kept-accepted : (b : Bool) (v w u : Verdict) → (w ≡ accepted → u ≡ accepted) → (if b then w else v) ≡ accepted
+    → (if b then u else v) ≡ accepted
+kept-accepted true v w u f h = f h
+kept-accepted false v w u f h = h
+
+pub slices : (at : ℕ → Verdict) (b j a i n : ℕ) → j ≡ i + a → n ≡ b + a → firstRefusal at a i ≡ accepted
+    → firstRefusal at b j ≡ accepted → firstRefusal at n i ≡ accepted
+unfolding firstRefusal
+slices at b j zero i n e f h k =
+    let size : b ≡ n = omega (arith, f) in
+    let place : j ≡ i = omega (arith, e) in
+    subst (λ x. firstRefusal at x i ≡ accepted) size (subst (λ x. firstRefusal at b x ≡ accepted) place k)
+slices at b j (suc a) i zero e f h k = refl
+slices at b j (suc a) i (suc n) e f h k =
+    kept-accepted (eqb (at i .number) 0) (at i) (firstRefusal at a (i + 1)) (firstRefusal at n (i + 1))
+    (λ m. slices at b j a (i + 1) n (omega (arith, e)) (omega (arith, f)) m k) h
+
+abbrev pub stepIn : List ℕ → ℕ → Verdict
+stepIn s i = stepVerdict (stepAt (countsOf s) (stepsPart s) i) i
+
+pub steps-verdict : (s : List ℕ) → firstRefusal (stepIn s) (stepsOf s) 0 ≡ accepted → stepsVerdict s ≡ accepted
+unfolding stepsVerdict
+steps-verdict s h = h
+
+pub book-verdict : (s : List ℕ) (v : Verdict) → layoutVerdict s ≡ accepted → directoryVerdict s ≡ accepted → stepsVerdict s ≡ accepted
+    → (nestingVerdict s orElse pausingVerdict s) ≡ v → bookVerdict s ≡ v
+unfolding bookVerdict
+book-verdict s v a b c d =
+    ap (λ x. x orElse directoryVerdict s orElse stepsVerdict s orElse nestingVerdict s orElse pausingVerdict s) a
+    ∙ ap (λ x. x orElse stepsVerdict s orElse nestingVerdict s orElse pausingVerdict s) b
+    ∙ ap (λ x. x orElse nestingVerdict s orElse pausingVerdict s) c
+    ∙ d
+
+-- The calls, given the book's verdict b, which is claimed once for each book.
+abbrev shownBy : Verdict → List ℕ → ℕ → List ℕ
+shownBy b s r = if eqb (b .number) 0 && ltb r (routinesOf s) then routineSteps s r else []
+
+pub shown-by : (s : List ℕ) (r : ℕ) → shown s r ≡ shownBy (bookVerdict s) s r
+unfolding shown
+shown-by s r = refl
+
+abbrev setUpBy : Verdict → List ℕ → Game → Outcome
+setUpBy b s g = unlessRefused b (newGame (countsOf s)) g
+
+pub set-up-by : (s : List ℕ) (g : Game) → setUp s g ≡ setUpBy (bookVerdict s) s g
+unfolding setUp
+set-up-by s g = refl
+
+abbrev orderedBy : Verdict → List ℕ → Game → ℕ → ℕ → Outcome
+orderedBy b s g kind n = unlessRefused (b orElse fitVerdict s g orElse numberVerdict s kind n) (obeyed g kind n) g
+
+pub ordered-by : (s : List ℕ) (g : Game) (kind n : ℕ) → ordered s g kind n ≡ orderedBy (bookVerdict s) s g kind n
+unfolding ordered orderVerdict
+ordered-by s g kind n = refl
+
+abbrev answerBy : Verdict → List ℕ → Game → List ℤ → Answer
+answerBy b s g buffer =
+    let v = b orElse fitVerdict s g orElse spaceVerdict s buffer orElse numbersVerdict (round s g) in
+    if eqb (v .number) 0 then playedOut v (round s g) buffer else turnedDown v g buffer
+
+pub answer-by : (s : List ℕ) (g : Game) (buffer : List ℤ) → answer s g buffer ≡ answerBy (bookVerdict s) s g buffer
+unfolding answer roundVerdict
+answer-by s g buffer = refl
+
+-- a field goes by its place among: stage, place, left, susp, begun, tostop, tosuspend, toresume, R, E, C, listed_len, tostart_len,
+-- listed, tostart, broadcast; a counter's content is signed
+pub data Command : Type 0 where
+  Book : List ℕ → Verdict → Command
+  Read : Command
+  Show : ℕ → Command
+  SetUp : Command
+  Order : ℕ → ℕ → Command
+  Round : ℕ → Command
+  Poke : ℕ → ℕ → ℕ → Command
+  PokeCounter : ℕ → ℤ → Command
+  Log : Command
+  Facts : Command
+  Dump : Command
+
+-- what the commands work on: the book with its verdict, the game, and the last accepted round, with its book and game as lent
+pub record Table : Type 0 where
+  pub book : List ℕ
+  pub verdict : Verdict
+  pub game : Game
+  pub last : rounds.Round
+  pub bookLent : List ℕ
+  pub gameLent : Game
+
+abbrev pub Lines : Type 0
+Lines = List (List ℤ)
+
+pub record Done : Type 0 where
+  pub lines : Lines
+  pub table : Table
+
+abbrev withBook : Table → List ℕ → Verdict → Table
+withBook t s b = record { book = s; verdict = b; game = t .game; last = t .last; bookLent = t .bookLent; gameLent = t .gameLent }
+
+abbrev withGame : Table → Game → Table
+withGame t g = record { book = t .book; verdict = t .verdict; game = g; last = t .last; bookLent = t .bookLent; gameLent = t .gameLent }
+
+abbrev line : List ℕ → List ℤ
+line = map pos
+
+abbrev verdictLine : Verdict → List ℕ
+verdictLine v = v .number ∷ v .place ∷ []
+
+abbrev flag : Bool → ℕ
+flag b = if b then 1 else 0
+
+-- a field overwritten
+abbrev pokedRoutine : ℕ → ℕ → Routine → Routine
+pokedRoutine field v x =
+    record {
+      stage = if eqb field 0 then v else x .stage;
+      place = if eqb field 1 then v else x .place;
+      left = if eqb field 2 then v else x .left;
+      suspended = if eqb field 3 then eqb v 1 else x .suspended;
+      begun = if eqb field 4 then eqb v 1 else x .begun;
+      stopping = if eqb field 5 then eqb v 1 else x .stopping;
+      suspending = if eqb field 6 then eqb v 1 else x .suspending;
+      resuming = if eqb field 7 then eqb v 1 else x .resuming;
+    }
+
+abbrev pokedLine : Bool → Bool → ℕ → ℕ → Line → Line
+pokedLine size item i v l = record { items = if item then set (l .items) i v else l .items; len = if size then v else l .len }
+
+abbrev poked : ℕ → ℕ → ℕ → Game → Game
+poked field i v g =
+    record {
+      counts =
+          record {
+            routines = if eqb field 8 then v else g .counts .routines;
+            signals = if eqb field 9 then v else g .counts .signals;
+            counters = if eqb field 10 then v else g .counts .counters;
+          };
+      routines = if ltb field 8 then set (g .routines) i (pokedRoutine field v (routineAt g i)) else g .routines;
+      counters = g .counters;
+      listed = pokedLine (eqb field 11) (eqb field 13) i v (g .listed);
+      starting = pokedLine (eqb field 12) (eqb field 14) i v (g .starting);
+      broadcast = if eqb field 15 then set (g .broadcast) i (eqb v 1) else g .broadcast;
+    }
+
+-- the first n numbers of a kind, rising
+unfoldable pub numbersBelow : ℕ → (ℕ → Bool) → List ℕ
+numbersBelow zero test = []
+numbersBelow (suc n) test = numbersBelow n test ++ (if test n then n ∷ [] else [])
+
+-- each of the first n routines
+unfoldable pub routineLines : ℕ → Game → Lines
+routineLines zero g = []
+routineLines (suc r) g =
+    let x = routineAt g r in
+    routineLines r g
+    ++ (line (r ∷ x .stage ∷ flag (x .suspended) ∷ x .place ∷ flag (x .begun) ∷ x .left ∷ []) ∷ [])
+
+abbrev dumped : Game → Lines
+dumped g =
+    line (g .counts .routines ∷ g .counts .signals ∷ g .counts .counters ∷ [])
+    ∷ routineLines (g .counts .routines) g
+    ++ (take (g .counts .counters) (g .counters)
+    ∷ line (entriesOf (g .listed))
+    ∷ line (entriesOf (g .starting))
+    ∷ line (numbersBelow mostRoutines (λ r. routineAt g r .stopping))
+    ∷ line (numbersBelow mostRoutines (λ r. routineAt g r .suspending))
+    ∷ line (numbersBelow mostRoutines (λ r. routineAt g r .resuming))
+    ∷ line (numbersBelow mostSignals (isBroadcast g))
+    ∷ [])
+
+-- a byte for each turn
+abbrev turnByte : Turn → ℕ
+turnByte passedOver = 0
+turnByte (took Ended) = 1
+turnByte (took Rested) = 2
+turnByte (took Missed) = 2
+turnByte (took Continued) = 3
+
+abbrev isGift : Happening → ℕ
+isGift (gave e k) = 1
+isGift (ended r) = 0
+isGift (missing r p t) = 0
+isGift (past r p t) = 0
+isGift (marked r n) = 0
+
+abbrev isEnd : Happening → ℕ
+isEnd (gave e k) = 0
+isEnd (ended r) = 1
+isEnd (missing r p t) = 0
+isEnd (past r p t) = 0
+isEnd (marked r n) = 0
+
+unfoldable pub total : List ℕ → ℕ
+total [] = 0
+total (n ∷ ns) = n + total ns
+
+-- the signal steps among the first n steps of a routine
+unfoldable pub signalSteps : List ℕ → ℕ → ℕ
+signalSteps steps zero = 0
+signalSteps steps (suc n) = signalSteps steps n + flag (eqb (opAt steps n) 4 || eqb (opAt steps n) 5)
+
+abbrev signalStepsOf : List ℕ → ℕ → ℕ
+signalStepsOf s r = signalSteps (routineSteps s r) (sizeOf (routineSteps s r))
+
+-- a line for each mark
+unfoldable pub markLines : List ℤ → Lines
+markLines [] = []
+markLines (x ∷ []) = (x ∷ []) ∷ []
+markLines (x ∷ y ∷ rest) = (x ∷ y ∷ []) ∷ markLines rest
+
+-- the answer's line, its marks, and the rest of the buffer
+abbrev roundLines : Answer → Lines
+roundLines a =
+    let n = numbersPerMark * a .marks in
+    line (a .verdict .number ∷ a .verdict .place ∷ a .passes ∷ a .marks ∷ [])
+    ∷ markLines (take n (a .buffer))
+    ++ (drop n (a .buffer) ∷ [])
+
+abbrev roundDone : Table → Answer → Done
+roundDone t a =
+    record {
+      lines = roundLines a;
+      table =
+          if eqb (a .verdict .number) 0
+          then record {
+            book = t .book;
+            verdict = t .verdict;
+            game = a .game;
+            last = round (t .book) (t .game);
+            bookLent = t .book;
+            gameLent = t .game;
+          }
+          else withGame t (a .game);
+    }
+
+abbrev done : Command → Table → Done
+done (Book s b) t = record { lines = []; table = withBook t s b }
+done Read t = record { lines = line (verdictLine (t .verdict)) ∷ []; table = t }
+done (Show r) t = record { lines = line (shownBy (t .verdict) (t .book) r) ∷ []; table = t }
+done SetUp t =
+    let o = setUpBy (t .verdict) (t .book) (t .game) in
+    record { lines = line (verdictLine (o .verdict)) ∷ []; table = withGame t (o .game) }
+done (Order kind n) t =
+    let o = orderedBy (t .verdict) (t .book) (t .game) kind n in
+    record { lines = line (verdictLine (o .verdict)) ∷ []; table = withGame t (o .game) }
+done (Round size) t = roundDone t (answerBy (t .verdict) (t .book) (t .game) (replicate size (pos 0)))
+done (Poke field i v) t = record { lines = []; table = withGame t (poked field i v (t .game)) }
+done (PokeCounter i v) t = record { lines = []; table = withGame t (withCounter (t .game) i v) }
+done Log t = record { lines = line (map turnByte (t .last .played .turns)) ∷ []; table = t }
+done Facts t =
+    let told = t .last .played .told in
+    let listed = entriesOf (atStart (t .gameLent) .game .listed) in
+    record {
+      lines =
+          line
+          (t .last .passes
+          ∷ total (map isGift told)
+          ∷ total (map isEnd told)
+          ∷ total (map (signalStepsOf (t .bookLent)) listed)
+          ∷ [])
+          ∷ [];
+      table = t;
+    }
+done Dump t = record { lines = dumped (t .game); table = t }
+
+-- the lines of each command in turn
+unfoldable pub playedFrom : List Command → Table → List Lines
+playedFrom [] t = []
+playedFrom (c ∷ cs) t =
+    let d = done c t in
+    d .lines ∷ playedFrom cs (d .table)
+
+-- from no book, a game whose fields are all 0, and its round
+abbrev pub played : List Command → List Lines
+played cs =
+    playedFrom cs
+    (record {
+      book = [];
+      verdict = bookVerdict [];
+      game = blankGame;
+      last = round [] blankGame;
+      bookLent = [];
+      gameLent = blankGame;
+    })
+"""
+
+UNFOLDING = """\
+unfolding playedFrom numbersBelow routineLines total signalSteps markLines obeyed written marksIn markSteps round instant pass turn
+    allDone ticks effectOn tick tickOf waitsFor fromEnd openingBefore pastPartner atStart each kept appended isThere isEndThere
+    numbersWith newGame blankGame withStart fitsBook routineFits slotFits entryFits lineFits countersFit signalsFit isIn allBelow
+    anyBelow bookVerdict layoutVerdict directoryVerdict stepsVerdict nestingVerdict pausingVerdict routineWalk routinePart routineOf
+    stepOf blockBy partnerOf viewAt stepAt decoded rowOf stepsBefore firstRefusal
+"""
+
+HEADER = """\
+-- Books of a script of plays, and what their commands answer.
+use Prim.Native.Nat.{ℕ}
+use mathlib.Core.Path.{_≡_, refl}
+use mathlib.Core.List.{List, [], _∷_}
+use lib.ListN.{replicate}
+use lib.IntN.{ℤ, pos, negsuc}
+use Rattle.kinds.specs.Steps.{rowOf, decoded, stepAt}
+use Rattle.blocks.specs.Blocks.{viewAt, blockBy, stepOf, routineOf, partnerOf}
+use Rattle.book.specs.Verdicts.{accepted, refused, _orElse_, firstRefusal}
+use Rattle.book.specs.Layout.{layoutVerdict, stepsBefore, directoryVerdict}
+use Rattle.book.specs.Book.{stepsVerdict, routinePart, routineWalk, nestingVerdict, pausingVerdict, bookVerdict}
+use Rattle.game.specs.Below.{allBelow, anyBelow}
+use Rattle.game.specs.Lines.{isIn, appended}
+use Rattle.game.specs.Game.{blankGame, withStart}
+use Rattle.game.specs.Fitting.{routineFits, slotFits, entryFits, lineFits, countersFit, signalsFit, fitsBook}
+use Rattle.orders.specs.SetUp.{newGame}
+use Rattle.orders.specs.Orders.{obeyed}
+use Rattle.round.specs.State.{numbersWith, isEndThere, isThere}
+use Rattle.round.specs.Actions.{kept, each, atStart}
+use Rattle.round.specs.Jumps.{pastPartner, openingBefore, fromEnd}
+use Rattle.round.specs.Ticks.{waitsFor, tickOf, tick, effectOn}
+use Rattle.round.specs.Rounds.{ticks, allDone, turn, pass, instant, round}
+use Rattle.round.specs.Answers.{markSteps, marksIn, written}
+use Rattle.round.specs.Script.{slices, stepIn, steps-verdict, book-verdict, numbersBelow, routineLines, total, signalSteps}
+use Rattle.round.specs.Script.{Command, Book, Read, Show, SetUp, Order, Round, Poke, PokeCounter, Log, Facts, Dump, Lines}
+use Rattle.round.specs.Script.{markLines, playedFrom, played}
+"""
+
+# runs of books to a module; steps of a book to a claim, where it has more than MOST_STEPS
+RUNS = 16
+SLICE = 64
+MOST_STEPS = 256
+
+
+class Disagrees(Exception):
+    """A command that does not answer as listed."""
+
+
+class Step:
+    """A command of the script: its book, its line in the file, and the lines that are listed for it."""
+
+    def __init__(self, book, line, command, told):
+        self.book, self.line, self.command, self.told = book, line, command, told
+        self.word, *self.rest = command.split()
+
+    def disagrees(self):
+        return Disagrees(f"book {self.book.number}, line {self.line}: '{self.command[:60]}' does not answer {self.told}")
+
+
+class Book:
+    """A book of the script: its number, its bytes, the commands from it on, and the verdict that is listed."""
+
+    def __init__(self, number, text):
+        self.number, self.bytes, self.steps, self.verdict = number, bytes_of(text), [], None
+
+    def parts(self):
+        """Its commands, in parts that begin where the game is set up."""
+        parts = [[]]
+        for step in self.steps:
+            if step.told == ["setup 0 0"]:
+                parts.append(self.steps[:1])
+            parts[-1] = parts[-1] + [step]
+        return [part for part in parts if len(part) > 1]
+
+
+def joined(items):
+    return "".join(f"{item} ∷ " for item in items) + "[]"
+
+
+def signed(n):
+    return f"pos {n}" if n >= 0 else f"negsuc {-n - 1}"
+
+
+def bytes_of(text):
+    return [] if text == "-" else list(bytes.fromhex(text))
+
+
+def well_formed(step):
+    """The words of the listed lines are those of the command, and of facts the four parts of demand 3 held."""
+    words = [line.split()[0] for line in step.told]
+    if step.word == "round":
+        return words == ["round"] + ["mark"] * (len(words) - 1)
+    if step.word == "dump":
+        return words == ["game"] + ["routine"] * (len(words) - 1 - len(DUMP)) + list(DUMP)
+    if step.word == "facts" and step.told[0].split()[5:] != ["1"] * 4:
+        return False
+    return words == ([] if step.word in ("book", "poke") else [step.word])
+
+
+def is_held(field, value):
+    """Whether the definitions' game can hold the value: its numbers have no largest one."""
+    return holds(field, value) or field not in FLAGS and value >= 0
+
+
+def claimed(books):
+    """Takes out the commands that cannot be claimed, and answers how many they are."""
+    unheld, skipped = set(), 0
+    for book in books:
+        kept = []
+        for step in book.steps:
+            if not well_formed(step):
+                raise step.disagrees()
+            skip = False
+            if step.told == ["setup 0 0"]:
+                unheld = set()
+            elif step.word == "poke":
+                skip = not is_held(step.rest[0], int(step.rest[2]))
+                (unheld.add if skip else unheld.discard)((step.rest[0], step.rest[1]))
+            elif unheld and step.word in ("order", "round", "dump"):
+                skip = True
+                verdict = "9 0" if book.verdict == "0 0" else book.verdict
+                refusal = {"order": f"order {verdict}", "round": f"round {verdict} 0 0"}
+                if step.word != "dump" and step.told != [refusal[step.word]]:
+                    raise step.disagrees()
+            skipped += skip
+            kept += [] if skip else [step]
+        book.steps = kept
+    return skipped
+
+
+def follows(steps):
+    """Whether some commands look at a game or a round of earlier ones."""
+    game = trace = True
+    for step in steps:
+        if step.told == ["setup 0 0"]:
+            game = False
+        elif step.word in ("order", "round", "poke", "dump") and game or step.word in ("log", "facts") and trace:
+            return True
+        elif step.word == "round" and step.told[0].startswith("round 0 "):
+            trace = False
+    return False
+
+
+def groups_of(books):
+    """Runs of commands, grouped: a run looks at no game and no round of an earlier one, and a group has whole books."""
+    runs = []
+    for book in books:
+        for part in book.parts():
+            while runs and follows(part):
+                part = runs.pop() + part
+            runs.append(part)
+    groups = [[]]
+    for run in runs:
+        if len(groups[-1]) >= RUNS and groups[-1][-1][-1].book is not run[0].book:
+            groups.append([])
+        groups[-1].append(run)
+    return groups
+
+
+def command_term(step):
+    if step.word == "book":
+        return f"Book book{step.book.number} (refused {step.book.verdict})"
+    if step.word == "poke":
+        field, i, value = step.rest[0], step.rest[1], int(step.rest[2])
+        return f"PokeCounter {i} ({signed(value)})" if field == "counter" else f"Poke {FIELDS.index(field)} {i} {value}"
+    return " ".join([{"setup": "SetUp"}.get(step.word, step.word.capitalize())] + step.rest)
+
+
+def lines_term(step):
+    lines = [line.split()[1:] for line in step.told]
+    if step.word in ("show", "log"):
+        lines = [bytes_of(numbers[0]) for numbers in lines]
+    if step.word == "facts":
+        lines = [lines[0][:4]]
+    terms = ["(" + joined(signed(int(n)) for n in numbers) + ")" for numbers in lines]
+    if step.word == "round":
+        terms.append(f"replicate {max(0, int(step.rest[0]) - 2 * int(lines[0][3]))} (pos 0)")
+    return "(" + joined(terms) + ")"
+
+
+def claim(name, statement, proof="refl", unfolding=UNFOLDING):
+    return f"\npub {name} : {statement}\n{unfolding}{name} = {proof}\n"
+
+
+def book_text(book):
+    """A book, and the claim on its verdict."""
+    i, wanted = book.number, f"refused {book.verdict}"
+    text = f"\nabbrev book{i} : List ℕ\nbook{i} = {joined(book.bytes)}\n"
+    steps = (len(book.bytes) - 12 - 4 * book.bytes[0]) // 8 if book.bytes else 0
+    if steps <= MOST_STEPS or book.verdict[0] in "12345":
+        return text + claim(f"read{i}", f"bookVerdict book{i} ≡ {wanted}")
+    proof = None
+    for at in reversed(range(0, steps, SLICE)):
+        end = min(at + SLICE, steps)
+        text += claim(f"read{i}from{at}", f"firstRefusal (stepIn book{i}) {end - at} {at} ≡ accepted")
+        slices = f"slices (stepIn book{i}) {steps - end} {end} {end - at} {at} {steps - at} refl refl read{i}from{at}"
+        proof = f"({slices} {proof})" if proof else f"read{i}from{at}"
+    for part in ("layout", "directory"):
+        text += claim(f"read{i}{part}", f"{part}Verdict book{i} ≡ accepted")
+    text += claim(f"read{i}nesting", f"(nestingVerdict book{i} orElse pausingVerdict book{i}) ≡ {wanted}")
+    text += claim(f"read{i}steps", f"stepsVerdict book{i} ≡ accepted", f"steps-verdict book{i} {proof}", "")
+    parts = " ".join(f"read{i}{part}" for part in ("layout", "directory", "steps", "nesting"))
+    return text + claim(f"read{i}", f"bookVerdict book{i} ≡ {wanted}", f"book-verdict book{i} ({wanted}) {parts}", "")
+
+
+def name_of(run):
+    """The name of the claim on a run: the line of its first command behind the book."""
+    return f"agrees{run[1].line}"
+
+
+def run_text(run):
+    """The claim on a run."""
+    i = run[1].line
+    text = f"\nabbrev script{i} : List Command\nscript{i} = {joined(map(command_term, run))}\n"
+    text += f"\nabbrev lines{i} : List Lines\nlines{i} = {joined(map(lines_term, run))}\n"
+    return text + claim(name_of(run), f"played script{i} ≡ lines{i}")
+
+
+def text_of(runs):
+    """The claims on some runs and their books."""
+    books = {step.book.number: step.book for run in runs for step in run}
+    return "".join(map(book_text, books.values())) + "".join(map(run_text, runs))
+
+
+def failing(copy, text):
+    """Has a module with this text checked, and answers the claims that do not hold, each with what is told of it."""
+    specs = os.path.join(copy, "crates/round/specs")
+    root = open(os.path.join(ROOT, "crates/round/specs/Lib.antt")).read()
+    modules = {"Lib": root + "pub mod Script\npub mod Plays\n", "Script": SCRIPT, "Plays": HEADER + text}
+    for name, content in modules.items():
+        open(os.path.join(specs, name + ".antt"), "w").write(content)
+    done = subprocess.run(["rt", "dev", "round"], cwd=copy, env=os.environ | {"RT_CUT": "0"}, text=True,
+                          stdout=subprocess.PIPE, stderr=subprocess.STDOUT)
+    wrong = dict(re.findall(r"/Plays\.antt:\d+:\d+: error: `(\w+)`: (.*)", done.stdout))
+    if not wrong and (done.returncode or "\nlogic=proved " not in done.stdout):
+        sys.exit(done.stdout)
+    return wrong
+
+
+def first_wrong(copy, run):
+    """The first command of a run that does not agree, by halving: the claim holds of some first commands and not of more."""
+    good, bad = 1, len(run)
+    while bad - good > 1:
+        middle = (good + bad) // 2
+        wrong = failing(copy, text_of([run[:middle]]))
+        good, bad = (good, middle) if name_of(run) in wrong else (middle, bad)
+    return run[bad - 1]
+
+
+def disagreement(copy, runs, wrong):
+    """The first command that does not agree, where these claims on some runs and their books do not hold."""
+    found = [step for run in runs for step in run
+             if step.word == "read" and any(re.fullmatch(rf"read{step.book.number}(\D.*)?", name) for name in wrong)]
+    failed = [run for run in runs if name_of(run) in wrong]
+    if failed:
+        found.append(first_wrong(copy, failed[0]))
+    return min(found, key=lambda step: step.line).disagrees()
+
+
+def books_of(plays_in, plays_out):
+    """The books of a script."""
+    commands = [line for line in open(plays_in).read().split("\n") if line]
+    books = []
+    for line, (command, told) in enumerate(answers(commands, open(plays_out).read().split("\n")), 1):
+        if command.startswith("book"):
+            books.append(Book(len(books), command.split()[1]))
+        books[-1].steps.append(Step(books[-1], line, command, told))
+        if command == "read":
+            books[-1].verdict = " ".join(told[0].split()[1:])
+    for book in books:
+        if not book.verdict:
+            sys.exit(f"book {book.number} is never read")
+    return books
+
+
+def copied(copy):
+    """Copies the crates, and what is proved of them."""
+    for name in ("crates", "target"):
+        if os.path.isdir(os.path.join(ROOT, name)):
+            shutil.copytree(os.path.join(ROOT, name), os.path.join(copy, name))
+    shutil.copy(os.path.join(ROOT, "crates.txt"), copy)
+
+
+def main():
+    books = books_of(*sys.argv[1:3])[: int(sys.argv[3]) if len(sys.argv) > 3 else None]
+    skipped = claimed(books)
+    claims, unfinished = 0, []
+    with tempfile.TemporaryDirectory() as copy:
+        copied(copy)
+        for runs in groups_of(books):
+            text = text_of(runs)
+            claims += text.count("\npub ")
+            told = failing(copy, text)
+            undecided = [name for name in told if "step limit" in told[name]]
+            unfinished += undecided
+            # a claim that cites another one is not admitted where that one is not
+            wrong = [name for name in told if name not in unfinished and "was not admitted" not in told[name]]
+            if wrong:
+                raise disagreement(copy, runs, wrong)
+            left = f", but {' '.join(undecided)} not decided" if undecided else ""
+            print(f"books {runs[0][0].book.number} to {runs[-1][-1].book.number} agree{left}", flush=True)
+    rounds = sum(step.word == "round" for book in books for step in book.steps)
+    whole = f"{len(books)} books, {rounds} rounds, {claims} claims"
+    if unfinished:
+        print(f"{whole}: not all decided, antt's steps do not suffice for {' '.join(unfinished)}; {skipped} commands skipped")
+        sys.exit(3)
+    print(f"{whole}: all agree; {skipped} commands skipped")
+
+
+if __name__ == "__main__":
+    try:
+        main()
+    except Disagrees as error:
+        print(error)
+        sys.exit(1)
