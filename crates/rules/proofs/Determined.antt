@@ -19,7 +19,10 @@ data Result : Type 0 where
   gives : Status → Instruction → Scheduler → Result
 
 -- a wait with no instant left terminates
-expired : {e : Event} {k : ℕ} {i : Instruction} {σ τ : Scheduler} {α : Status} → ⟨ awaitN e k & σ ⟩⟶[ α ]⟨ i & τ ⟩ → k ≤ 0 → α ≡ TERM
+expired :
+    {e : Event} {k : ℕ} {i : Instruction} {σ τ : Scheduler} {α : Status} →
+    ⟨ awaitN e k & σ ⟩⟶[ α ]⟨ i & τ ⟩ → k ≤ 0 →
+    α ≡ TERM
 expired (rule25 x) h = refl
 expired (rule26 x u v) h = absurd (omega arith)
 expired (rule27 x u v) h = absurd (omega arith)

@@ -46,7 +46,10 @@ module _ (counts : Counts) (r : ℕ) (steps : List ℕ) where
       -- i goes by the rules, with the turn's status, to what is left of the routine at y
       abbrev ByRules : Instruction → Scheduler → Type 0
       ByRules i σ =
-          (i′ : Instruction) × ⟨ i & σ ⟩⟶[ statusAfter h ]⟨ i′ & view u us ⟩ × (i′ ⇝ leftOfBlock r stepOf b y) × (y .place ≤ sizeOf steps)
+          (i′ : Instruction)
+          × ⟨ i & σ ⟩⟶[ statusAfter h ]⟨ i′ & view u us ⟩
+          × (i′ ⇝ leftOfBlock r stepOf b y)
+          × (y .place ≤ sizeOf steps)
 
       past-last :
           {m : ℕ} {i : Instruction} {σ : Scheduler} {x : Position} {v : State} {vs : Marks} →
