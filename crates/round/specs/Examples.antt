@@ -1,4 +1,5 @@
--- What a round of T3's book is told, by evaluation: the order of the refusals, what they hand back, and the buffer beyond the marks.
+-- Rounds of T3's book, by evaluation: the order of the refusals and what they hand back, what happens in a round, and the buffer beyond
+-- the marks.
 use Prim.Native.Nat.{ℕ}
 use mathlib.Core.Path.{_≡_, refl}
 use mathlib.Core.List.{List, [], _∷_, map}
@@ -15,11 +16,12 @@ use Rattle.game.specs.Lines.{isIn, appended}
 use Rattle.game.specs.Game.{blankGame, withStart}
 use Rattle.game.specs.Fitting.{routineFits, slotFits, entryFits, lineFits, countersFit, signalsFit, fitsBook}
 use Rattle.orders.specs.SetUp.{newGame}
-use Rattle.round.specs.State.{numbersWith, isEndThere, isThere}
+use Rattle.round.specs.declared.Ending.the-variants.{Ended, Continued}
+use Rattle.round.specs.State.{signal, Happening, gave, ended, missing, past, marked, numbersWith, isEndThere, isThere}
 use Rattle.round.specs.Actions.{kept, each, atStart}
 use Rattle.round.specs.Jumps.{pastPartner, openingBefore, fromEnd}
 use Rattle.round.specs.Ticks.{waitsFor, tickOf, tick, effectOn}
-use Rattle.round.specs.Rounds.{ticks, allDone, turn, pass, instant, round}
+use Rattle.round.specs.Rounds.{ticks, Turn, passedOver, took, allDone, turn, pass, instant, round}
 use Rattle.round.specs.Answers.{markSteps, marksIn, written, roundVerdict, Answer, answer}
 
 -- the game of T3 before its second round, in which it leaves its mark
@@ -51,13 +53,26 @@ examples =
     ∷ isTold t3 (newGame (countsOf t3)) (pos 5 ∷ []) 10
     ∷ []
 
+-- what T3's second round tells, and how each turn came out: routine 0 waits, routine 1 signals and ends, routine 0 goes past, marks and
+-- ends, and routine 1 is passed over
+abbrev pub told : List Happening
+told =
+    missing 0 1 (signal 0) ∷ gave 0 0 ∷ ended 1
+    ∷ past 0 1 (signal 0) ∷ marked 0 (pos 7) ∷ ended 0
+    ∷ []
+
+abbrev pub turns : List Turn
+turns = took Continued ∷ took Ended ∷ took Ended ∷ passedOver ∷ []
+
 -- and in an accepted round the mark (0, 7) stands at the buffer's start, and what is beyond it stays
 pub as-told :
     (map (λ e. answer (e .book) (e .game) (e .buffer)) examples ≡ map (λ e. e .tells) examples)
+    × (round t3 afterOne .played .told ≡ told)
+    × (round t3 afterOne .played .turns ≡ turns)
     × (answer t3 afterOne (pos 5 ∷ pos 6 ∷ pos 8 ∷ []) .buffer ≡ pos 0 ∷ pos 7 ∷ pos 8 ∷ [])
 unfolding answer roundVerdict written marksIn markSteps round instant pass turn allDone ticks effectOn tick tickOf waitsFor fromEnd
     openingBefore pastPartner atStart each kept appended isThere isEndThere numbersWith newGame blankGame withStart fitsBook routineFits slotFits
     entryFits lineFits countersFit signalsFit isIn allBelow anyBelow bookVerdict layoutVerdict directoryVerdict stepsVerdict
     nestingVerdict pausingVerdict routineWalk routinePart routineOf stepOf blockBy partnerOf viewAt stepAt decoded rowOf stepsBefore
     firstRefusal
-as-told = (refl, refl)
+as-told = (refl, refl, refl, refl)
