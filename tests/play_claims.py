@@ -247,19 +247,13 @@ turnByte (took Rested) = 2
 turnByte (took Missed) = 2
 turnByte (took Continued) = 3
 
-abbrev isGift : Happening → ℕ
-isGift (gave e k) = 1
-isGift (ended r) = 0
-isGift (missing r p t) = 0
-isGift (past r p t) = 0
-isGift (marked r n) = 0
-
-abbrev isEnd : Happening → ℕ
-isEnd (gave e k) = 0
-isEnd (ended r) = 1
-isEnd (missing r p t) = 0
-isEnd (past r p t) = 0
-isEnd (marked r n) = 0
+-- what counts for facts: a signal given, and a routine ended
+abbrev tally : Happening → ℕ × ℕ
+tally (gave e k) = (1, 0)
+tally (ended r) = (0, 1)
+tally (missing r p t) = (0, 0)
+tally (past r p t) = (0, 0)
+tally (marked r n) = (0, 0)
 
 unfoldable pub total : List ℕ → ℕ
 total [] = 0
@@ -325,8 +319,8 @@ done Facts t =
       lines =
           line
           (t .last .passes
-          ∷ total (map isGift told)
-          ∷ total (map isEnd told)
+          ∷ total (map (λ h. tally h .0) told)
+          ∷ total (map (λ h. tally h .1) told)
           ∷ total (map (signalStepsOf (t .bookLent)) listed)
           ∷ [])
           ∷ [];
