@@ -1,4 +1,5 @@
 pub mod Forms
+pub mod Given
 pub mod Jumps
 pub mod Marks
 pub mod Telling

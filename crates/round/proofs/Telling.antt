@@ -1,12 +1,12 @@
 -- What a round is told is told for the reason that document 01 gives, and nothing else is; with what it hands back either way.
 -- A reason settles each check up to its own, so it is enough to find one; the book and the game are checked as an order checks them.
 use Prim.Native.Nat.{ℕ, _≤_}
-use mathlib.Core.Path.{_≡_, refl, ap, _∙_}
-use mathlib.Core.Bool.{Bool, true, false}
+use mathlib.Core.Path.{_≡_, ap, _∙_}
+use mathlib.Core.Bool.{false}
 use mathlib.Core.List.{List}
 use native.Mathlib.Omega.{arith}
 use native.Mathlib.Decide.{ℕ-discrete, decLt}
-use borrow.Author.Tests.{eq-eqb, ne-eqb, le-leb, lt-leb}
+use borrow.Author.Tests.{eq-eqb, ne-eqb, le-leb, lt-leb, lt-ltb, le-ltb}
 use lib.ListN.{length}
 use lib.IntN.{ℤ}
 use Rattle.book.specs.declared.Verdict.{Verdict}
@@ -16,34 +16,36 @@ use Rattle.book.proofs.Telling.{told-only}
 use Rattle.game.specs.declared.Game.{Game}
 use Rattle.game.specs.Fits.{Fits}
 use Rattle.orders.proofs.Telling.{unfit-told, past-fit, by-fit}
+use Rattle.round.specs.Ticks.{mostNumbers}
 use Rattle.round.specs.Rounds.{round}
 use Rattle.round.specs.Answers.{spaceFor, roundVerdict, Answer, turnedDown, playedOut, answer}
-use Rattle.round.specs.Tells.{RoundTells}
+use Rattle.round.specs.Tells.{numbersGiven, RoundTells}
+use Rattle.round.proofs.Given.{too-many}
 
 pub round-told-only : {s : List ℕ} {g : Game} {buffer : List ℤ} {v : Verdict} → RoundTells s g buffer v → roundVerdict s g buffer ≡ v
 unfolding roundVerdict
 round-told-only {s} (RoundTells.book t) = orElse-told _ _ (told-only s t)
 round-told-only {s} {g} (RoundTells.unfit a m) = unfit-told s g _ a m
 round-told-only {s} {g} (RoundTells.short a f h) = past-fit s g _ a f ∙ rw (lt-leb _ _ h)
-round-told-only {s} {g} (RoundTells.tooMany a f h e) = past-fit s g _ a f ∙ rw (le-leb _ _ h, e)
-round-told-only {s} {g} (RoundTells.nothing a f h e) = past-fit s g _ a f ∙ rw (le-leb _ _ h, e)
+round-told-only {s} {g} (RoundTells.tooMany a f h m) = past-fit s g _ a f ∙ rw (le-leb _ _ h, too-many s g, lt-ltb _ _ m)
+round-told-only {s} {g} (RoundTells.nothing a f h m) = past-fit s g _ a f ∙ rw (le-leb _ _ h, too-many s g, le-ltb _ _ m)
 
 module _ (s : List ℕ) (g : Game) (buffer : List ℤ) where
   told : {v : Verdict} → RoundTells s g buffer v → RoundTells s g buffer (roundVerdict s g buffer)
   told t = rw (round-told-only t) t
 
-  by-numbers :
-      Accepted s → Fits s g → spaceFor s ≤ length buffer → (t : Bool) → round s g .played .state .tooMany ≡ t →
-      RoundTells s g buffer (roundVerdict s g buffer)
-  by-numbers a f h true e = told (RoundTells.tooMany a f h e)
-  by-numbers a f h false e = told (RoundTells.nothing a f h e)
+  by-numbers : Accepted s → Fits s g → spaceFor s ≤ length buffer → RoundTells s g buffer (roundVerdict s g buffer)
+  by-numbers a f h = elim (decLt mostNumbers (numbersGiven (round s g .played .told))) [
+    | yes m ↦ told (RoundTells.tooMany a f h m)
+    | no m ↦ told (RoundTells.nothing a f h (omega arith))
+  ]
 
   pub round-tells : RoundTells s g buffer (roundVerdict s g buffer)
   round-tells =
       by-fit s g (λ k p t. told (RoundTells.book t)) (λ a m. told (RoundTells.unfit a m)) (λ a f.
       elim (decLt (length buffer) (spaceFor s)) [
         | yes h ↦ told (RoundTells.short a f h)
-        | no h ↦ by-numbers a f (omega arith) _ refl
+        | no h ↦ by-numbers a f (omega arith)
       ]
       )
 
@@ -73,4 +75,4 @@ told-playable (RoundTells.book t) e = absurd (omega arith)
 told-playable (RoundTells.unfit a m) e = absurd (omega arith)
 told-playable (RoundTells.short a f h) e = absurd (omega arith)
 told-playable (RoundTells.tooMany a f h m) e = absurd (omega arith)
-told-playable (RoundTells.nothing a f h m) e = (a, f, h, m)
+told-playable {s} {g} (RoundTells.nothing a f h m) e = (a, f, h, too-many s g ∙ le-ltb _ _ m)
