@@ -62,7 +62,7 @@ use Rattle.orders.specs.declared.Outcome.{Outcome}
 use Rattle.orders.specs.SetUp.{unlessRefused, newGame, setUp}
 use Rattle.orders.specs.Orders.{fitVerdict, numberVerdict, orderVerdict, obeyed, ordered}
 use Rattle.round.specs.declared.Ending.the-variants.{Ended, Rested, Missed, Continued}
-use Rattle.round.specs.State.{Happening, gave, ended, missing, past, marked}
+use Rattle.round.specs.State.{Happening, gave, ended, missing, past, marked, completed}
 use Rattle.round.specs.Actions.{atStart}
 use Rattle.round.specs.Jumps.{sizeOf}
 use Rattle.round.specs.Rounds.{Turn, passedOver, took, round}
@@ -254,6 +254,7 @@ tally (ended r) = (0, 1)
 tally (missing r p t) = (0, 0)
 tally (past r p t) = (0, 0)
 tally (marked r n) = (0, 0)
+tally (completed r p) = (0, 0)
 
 unfoldable pub total : List ℕ → ℕ
 total [] = 0
@@ -350,7 +351,7 @@ played cs =
 """
 
 UNFOLDING = """\
-unfolding playedFrom numbersBelow routineLines total signalSteps markLines obeyed written marksIn markSteps round instant pass turn
+unfolding playedFrom numbersBelow routineLines total signalSteps markLines obeyed written marksIn countBelow round instant pass turn
     allDone ticks effectOn tick tickOf waitsFor fromEnd openingBefore pastPartner atStart each kept appended isThere isEndThere
     numbersWith newGame blankGame withStart fitsBook routineFits slotFits entryFits lineFits countersFit signalsFit isIn allBelow
     anyBelow bookVerdict layoutVerdict directoryVerdict stepsVerdict nestingVerdict pausingVerdict routineWalk routinePart routineOf
@@ -380,7 +381,8 @@ use Rattle.round.specs.Actions.{kept, each, atStart}
 use Rattle.round.specs.Jumps.{pastPartner, openingBefore, fromEnd}
 use Rattle.round.specs.Ticks.{waitsFor, tickOf, tick, effectOn}
 use Rattle.round.specs.Rounds.{ticks, allDone, turn, pass, instant, round}
-use Rattle.round.specs.Answers.{markSteps, marksIn, written}
+use Rattle.round.specs.History.{countBelow}
+use Rattle.round.specs.Answers.{marksIn, written}
 use Rattle.round.specs.Script.{slices, stepIn, steps-verdict, book-verdict, numbersBelow, routineLines, total, signalSteps}
 use Rattle.round.specs.Script.{Command, Book, Read, Show, SetUp, Order, Round, Poke, PokeCounter, Log, Facts, Dump, Lines}
 use Rattle.round.specs.Script.{markLines, playedFrom, played}

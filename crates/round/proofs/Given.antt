@@ -28,12 +28,14 @@ use Rattle.round.specs.declared.Effect.{Effect}
 use Rattle.round.specs.declared.Effect.the-variants.{Nothing, Put, GiveNumber}
 use Rattle.round.specs.declared.Act.{Act}
 use Rattle.round.specs.declared.Act.the-variants.{Goes, Halts}
-use Rattle.round.specs.State.{State, Thing, signal, end, number, Happening, gave, ended, missing, past, marked, numbersOf, isThere}
+use Rattle.round.specs.State.{State, Thing, signal, end, number, Happening, gave, missing, numbersOf, isThere}
+use Rattle.round.specs.History.{howMany}
 use Rattle.round.specs.Actions.{positionOf, atStart}
-use Rattle.round.specs.Ticks.{Tick, fresh, countAt, onward, tries, lacks, waitsFor, tickOf, tickAt, tick, mostNumbers, effectOn}
+use Rattle.round.specs.Ticks.{Tick, fresh, countAt, tries, waitsFor, tickOf, tickAt, tick, mostNumbers, effectOn}
 use Rattle.round.specs.Rounds.{Ticks, follow, ticks, mostTicks, withEnd, Played, allDone, again, mostPasses}
 use Rattle.round.specs.Rounds.{ticksOf, turn, pass, Round, instant, round}
-use Rattle.round.specs.Tells.{numbersGiven}
+use Rattle.round.specs.Tells.{givesNumber, numbersGiven}
+use Rattle.round.proofs.Histories.{many-append}
 
 -- after n numbers were given, so many are kept, and this says whether more were given
 data Given (n kept : ℕ) : Bool → Type 0 where
@@ -64,26 +66,17 @@ one-lost r (many l e) = many (omega arith) e
 abbrev Gives : State → State → List Happening → Type 0
 Gives s u told = (n : ℕ) → GivenIn n s → GivenIn (n + numbersGiven told) u
 
-numbers-append : (a b : List Happening) → numbersGiven (a ++ b) ≡ numbersGiven a + numbersGiven b
-unfolding numbersGiven
-numbers-append [] b = omega arith
-numbers-append (gave e k ∷ a) b = let h = numbers-append a b in omega arith
-numbers-append (ended r ∷ a) b = numbers-append a b
-numbers-append (missing r p t ∷ a) b = numbers-append a b
-numbers-append (past r p t ∷ a) b = numbers-append a b
-numbers-append (marked r n ∷ a) b = numbers-append a b
-
 -- the numbers of both, one after the other
 both-given :
     (a b : List Happening) (n : ℕ) {kept : ℕ} {over : Bool} → Given ((n + numbersGiven a) + numbersGiven b) kept over →
     Given (n + numbersGiven (a ++ b)) kept over
 both-given a b n g =
-    let both = numbers-append a b in
+    let both = many-append givesNumber a b in
     let e : n + numbersGiven (a ++ b) ≡ (n + numbersGiven a) + numbersGiven b = omega arith in
     rw e g
 
 gives-number : (s : State) (e : ℕ) (v : ℤ) → Gives s (effectOn (GiveNumber e v) s) (gave e (length (numbersOf s e) + 1) ∷ [])
-unfolding effectOn numbersGiven
+unfolding effectOn howMany
 gives-number s e v n h =
     let one : eqb (length (numbersOf s e) + 1) 0 ≡ false = ne-eqb (length (numbersOf s e) + 1) 0 (λ z. omega arith) in
     rw one (
@@ -104,22 +97,22 @@ module _ (counts : Counts) (r : ℕ) (steps : List ℕ) where
 
     tries-gives :
         (t : Thing) (e : Effect) (y : Position) → Gives s (effectOn e s) [] →
-        TickGives (tries r steps x s t (onward r steps x s e) (lacks r steps x s y))
-    unfolding numbersGiven
+        TickGives (tries r steps x s t e y)
+    unfolding howMany
     tries-gives t e y b =
         by-test TickGives (isThere s t) (λ h. b)
         (λ h. by-test (λ a. StepGives s a (missing r (x .place) t ∷ [])) (s .eoi) (λ k. none refl) (λ k. none refl))
 
-    waits-gives : (t : Thing) (y : Position) → TickGives (tries r steps x s t (onward r steps x s Nothing) (lacks r steps x s y))
-    unfolding effectOn numbersGiven
+    waits-gives : (t : Thing) (y : Position) → TickGives (tries r steps x s t Nothing y)
+    unfolding effectOn howMany
     waits-gives t y = tries-gives t Nothing y (none refl)
 
     waits-for-gives : (t : Thing) (k : ℕ) → TickGives (waitsFor r steps x s t k)
-    unfolding waitsFor effectOn numbersGiven
+    unfolding waitsFor effectOn howMany
     waits-for-gives t k = by-test TickGives (eqb k 0 && not (isThere s t)) (λ h. none refl) (λ h. waits-gives t _)
 
     kind-gives : (k : Kind) → TickGives (tickOf r steps x s k)
-    unfolding tickOf effectOn numbersGiven
+    unfolding tickOf effectOn howMany
     kind-gives (kind.Mark n) = none refl
     kind-gives (kind.Set c n) = none refl
     kind-gives (kind.Add c n) = none refl
@@ -143,7 +136,7 @@ module _ (counts : Counts) (r : ℕ) (steps : List ℕ) where
     kind-gives kind.End = none refl
 
     step-gives : (p : Step) → TickGives (tickAt r steps x s p)
-    unfolding numbersGiven
+    unfolding howMany
     step-gives (step.Kind k) = kind-gives k
     step-gives step.Refused = none refl
 
@@ -152,7 +145,7 @@ module _ (counts : Counts) (r : ℕ) (steps : List ℕ) where
     tick-gives = step-gives (stepAt counts steps (x .place))
 
   ticks-give : (n : ℕ) (x : Position) (s : State) → Gives s (ticks n counts r steps x s .state) (ticks n counts r steps x s .told)
-  unfolding ticks numbersGiven
+  unfolding ticks howMany
   ticks-give zero x s = none refl
   ticks-give (suc n) x s =
       let t = tick counts r steps x s in
@@ -163,7 +156,7 @@ module _ (counts : Counts) (r : ℕ) (steps : List ℕ) where
 
       behind :
           (act : Act) (told : List Happening) → StepGives s act told → ((q : ℕ) (u : State) → Gives u (rest q u .state) (rest q u .told)) →
-          Gives s (follow act told s rest .state) (follow act told s rest .told)
+          Gives s (follow r (x .place) act told s rest .state) (follow r (x .place) act told s rest .told)
       behind (Goes q e) told b on = λ n g. both-given told (rest q (effectOn e s) .told) n (on q (effectOn e s) _ (b n g))
       behind (Halts h y) told b on = b
 
@@ -179,7 +172,7 @@ module _ (book : List ℕ) where
   PlayGives s p = Gives s (p .state) (p .told)
 
   turn-gives : (r : ℕ) (s : State) → PlayGives s (turn book r s)
-  unfolding turn numbersGiven
+  unfolding turn howMany
   turn-gives r s =
       let x = routineAt (s .game) r in
       let steps = routineSteps book r in
@@ -187,14 +180,14 @@ module _ (book : List ℕ) where
       (λ h n g. end-gives (ticksOf book r s .ending) r _ (ticks-give (countsOf book) r steps (mostTicks steps) (positionOf x) s n g))
 
   pass-gives : (rs : List ℕ) (s : State) → PlayGives s (pass book rs s)
-  unfolding pass numbersGiven
+  unfolding pass howMany
   pass-gives [] s = none refl
   pass-gives (r ∷ rs) s =
       let first = turn book r s in
       λ n g. both-given (first .told) (pass book rs (first .state) .told) n (pass-gives rs (first .state) _ (turn-gives r s n g))
 
   instant-gives : (n : ℕ) (rs : List ℕ) (s : State) → PlayGives s (instant book n rs s .played)
-  unfolding instant numbersGiven
+  unfolding instant howMany
   instant-gives zero rs s = none refl
   instant-gives (suc n) rs s =
       let first = pass book rs s in

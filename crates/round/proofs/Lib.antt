@@ -1,3 +1,4 @@
+pub mod Histories
 pub mod Forms
 pub mod Given
 pub mod Jumps

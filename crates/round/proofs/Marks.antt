@@ -22,6 +22,7 @@ use Rattle.book.specs.Layout.{stepsOf}
 use Rattle.book.specs.Book.{countsOf, stepsPart}
 use Rattle.book.specs.Accepted.{Accepted}
 use Rattle.book.proofs.Laws.{step-kind}
+use Rattle.round.specs.History.{countBelow}
 use Rattle.round.specs.Answers.{opMark, markSteps}
 use Rattle.round.proofs.Forms.{step-op}
 
@@ -51,7 +52,7 @@ module _ (steps : List ℕ) (Such : ℕ → Type 0) where
   next false c h = rw add-zero (Counted.other c (λ x. true≢false (sym (h .1 x))))
 
   counted : (n : ℕ) → ((i : ℕ) → i < n → (eqb (opAt steps i) opMark ≡ true) ↔ Such i) → Counted Such n (markSteps steps n)
-  unfolding markSteps
+  unfolding countBelow
   counted zero h = Counted.none
   counted (suc n) h = next (eqb (opAt steps n) opMark) (counted n (λ i l. h i (omega arith))) (h n (omega arith))
 

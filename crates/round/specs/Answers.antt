@@ -1,5 +1,5 @@
 -- What playing a round answers: document 01, "Turned down because of the input" and "Turned down because of the state".
-use Prim.Native.Nat.{ℕ, zero, suc, _+_, _*_}
+use Prim.Native.Nat.{ℕ, _*_}
 use mathlib.Core.Bool.{not}
 use mathlib.Core.List.{List, [], _∷_, _++_}
 use lib.Dec.{eqb, leb}
@@ -13,7 +13,8 @@ use Rattle.book.specs.Layout.{stepsOf}
 use Rattle.book.specs.Book.{stepsPart, bookVerdict}
 use Rattle.game.specs.declared.Game.{Game}
 use Rattle.orders.specs.Orders.{fitVerdict}
-use Rattle.round.specs.State.{Happening, gave, ended, missing, past, marked}
+use Rattle.round.specs.State.{Happening, gave, ended, missing, past, marked, completed}
+use Rattle.round.specs.History.{countBelow}
 use Rattle.round.specs.Rounds.{Round, round}
 
 -- "0 mark"
@@ -21,9 +22,8 @@ abbrev pub opMark : ℕ
 opMark = 0
 
 -- how many of the first n steps of a part of the book are mark steps
-unfoldable pub markSteps : List ℕ → ℕ → ℕ
-markSteps steps zero = 0
-markSteps steps (suc n) = markSteps steps n + (if eqb (opAt steps n) opMark then 1 else 0)
+abbrev pub markSteps : List ℕ → ℕ → ℕ
+markSteps steps n = countBelow (λ p. eqb (opAt steps p) opMark) n
 
 -- the marks among what happened, each a routine and a number, "in the order made"
 unfoldable pub marksIn : List Happening → List (ℕ × ℤ)
@@ -33,6 +33,7 @@ marksIn (ended r ∷ told) = marksIn told
 marksIn (missing r p t ∷ told) = marksIn told
 marksIn (past r p t ∷ told) = marksIn told
 marksIn (marked r n ∷ told) = (r, n) ∷ marksIn told
+marksIn (completed r p ∷ told) = marksIn told
 
 -- "signed 32-bit numbers, two to a mark"
 abbrev pub numbersPerMark : ℕ

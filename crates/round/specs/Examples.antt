@@ -17,12 +17,13 @@ use Rattle.game.specs.Game.{blankGame, withStart}
 use Rattle.game.specs.Fitting.{routineFits, slotFits, entryFits, lineFits, countersFit, signalsFit, fitsBook}
 use Rattle.orders.specs.SetUp.{newGame}
 use Rattle.round.specs.declared.Ending.the-variants.{Ended, Continued}
-use Rattle.round.specs.State.{signal, Happening, gave, ended, missing, past, marked, numbersWith, isEndThere, isThere}
+use Rattle.round.specs.State.{signal, Happening, gave, ended, missing, past, marked, completed, numbersWith, isEndThere, isThere}
+use Rattle.round.specs.History.{countBelow}
 use Rattle.round.specs.Actions.{kept, each, atStart}
 use Rattle.round.specs.Jumps.{pastPartner, openingBefore, fromEnd}
 use Rattle.round.specs.Ticks.{waitsFor, tickOf, tick, effectOn}
 use Rattle.round.specs.Rounds.{ticks, Turn, passedOver, took, allDone, turn, pass, instant, round}
-use Rattle.round.specs.Answers.{markSteps, marksIn, written, roundVerdict, Answer, answer}
+use Rattle.round.specs.Answers.{marksIn, written, roundVerdict, Answer, answer}
 
 -- the game of T3 before its second round, in which it leaves its mark
 abbrev pub afterOne : Game
@@ -57,8 +58,8 @@ examples =
 -- ends, and routine 1 is passed over
 abbrev pub told : List Happening
 told =
-    missing 0 1 (signal 0) ∷ gave 0 0 ∷ ended 1
-    ∷ past 0 1 (signal 0) ∷ marked 0 (pos 7) ∷ ended 0
+    missing 0 1 (signal 0) ∷ completed 1 0 ∷ gave 0 0 ∷ ended 1
+    ∷ completed 0 1 ∷ past 0 1 (signal 0) ∷ completed 0 2 ∷ marked 0 (pos 7) ∷ ended 0
     ∷ []
 
 abbrev pub turns : List Turn
@@ -70,9 +71,9 @@ pub as-told :
     × (round t3 afterOne .played .told ≡ told)
     × (round t3 afterOne .played .turns ≡ turns)
     × (answer t3 afterOne (pos 5 ∷ pos 6 ∷ pos 8 ∷ []) .buffer ≡ pos 0 ∷ pos 7 ∷ pos 8 ∷ [])
-unfolding answer roundVerdict written marksIn markSteps round instant pass turn allDone ticks effectOn tick tickOf waitsFor fromEnd
-    openingBefore pastPartner atStart each kept appended isThere isEndThere numbersWith newGame blankGame withStart fitsBook routineFits slotFits
-    entryFits lineFits countersFit signalsFit isIn allBelow anyBelow bookVerdict layoutVerdict directoryVerdict stepsVerdict
+unfolding answer roundVerdict written marksIn countBelow round instant pass turn allDone ticks effectOn tick tickOf waitsFor fromEnd
+    openingBefore pastPartner atStart each kept appended isThere isEndThere numbersWith newGame blankGame withStart fitsBook routineFits
+    slotFits entryFits lineFits countersFit signalsFit isIn allBelow anyBelow bookVerdict layoutVerdict directoryVerdict stepsVerdict
     nestingVerdict pausingVerdict routineWalk routinePart routineOf stepOf blockBy partnerOf viewAt stepAt decoded rowOf stepsBefore
     firstRefusal
 as-told = (refl, refl, refl, refl)

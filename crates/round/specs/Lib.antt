@@ -1,4 +1,5 @@
 pub mod State
+pub mod History
 pub mod Actions
 pub mod Jumps
 pub mod Ticks

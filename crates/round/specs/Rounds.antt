@@ -17,7 +17,7 @@ use Rattle.round.specs.declared.Ending.the-variants.{Ended, Rested, Miss
 use Rattle.round.specs.declared.Position.{Position}
 use Rattle.round.specs.declared.Act.{Act}
 use Rattle.round.specs.declared.Act.the-variants.{Goes, Halts}
-use Rattle.round.specs.State.{State, withGame, withEndSignals, withMoves, Happening}
+use Rattle.round.specs.State.{State, withGame, withEndSignals, withMoves, Happening, completed}
 use Rattle.round.specs.Actions.{positionOf, placed, atStart}
 use Rattle.round.specs.Jumps.{sizeOf}
 use Rattle.round.specs.Ticks.{tick, fresh, effectOn}
@@ -29,19 +29,24 @@ pub record Ticks : Type 0 where
   pub state : State
   pub told : List Happening
 
--- behind one step, in which this happened: the next ones (rule 3), or the end of the turn (rule 4)
-abbrev pub follow : Act → List Happening → State → (ℕ → State → Ticks) → Ticks
-follow (Goes p e) told s next =
-    let rest = next p (effectOn e s) in
-    record { ending = rest .ending; position = rest .position; state = rest .state; told = told ++ rest .told }
-follow (Halts how x) told s next = record { ending = how; position = x; state = s; told = told }
+-- behind the step of routine r at place p, in which this happened: the next ones (rule 3), or the end of the turn (rule 4)
+abbrev pub follow : ℕ → ℕ → Act → List Happening → State → (ℕ → State → Ticks) → Ticks
+follow r p (Goes q e) told s next =
+    let rest = next q (effectOn e s) in
+    record {
+      ending = rest .ending;
+      position = rest .position;
+      state = rest .state;
+      told = completed r p ∷ told ++ rest .told;
+    }
+follow r p (Halts how y) told s next = record { ending = how; position = y; state = s; told = told }
 
 -- the steps of routine r from position x on, at most n of them; begun is "cleared when that step is past"
 unfoldable pub ticks : ℕ → Counts → ℕ → List ℕ → Position → State → Ticks
 ticks zero counts r steps x s = record { ending = Continued; position = x; state = s; told = [] }
 ticks (suc n) counts r steps x s =
     let t = tick counts r steps x s in
-    follow (t .act) (t .told) s (λ p u. ticks n counts r steps (fresh p) u)
+    follow r (x .place) (t .act) (t .told) s (λ p u. ticks n counts r steps (fresh p) u)
 
 -- the ticks that a turn may take, one for each step and one more; that they are enough is Enough.antt's claim
 abbrev pub mostTicks : List ℕ → ℕ
@@ -103,9 +108,14 @@ pub record Round : Type 0 where
   pub played : Played
   pub passes : ℕ
 
--- the passes that a round may take: behind a pass in which no signal is given and no routine ends there is to be at most one more
+-- the passes that a round may take: one for each signal step and each routine of a largest book, since behind a pass in which no signal is
+-- given and no routine ends there is at most one more; that they are enough is Enough.antt's claim
 abbrev pub mostPasses : ℕ
 mostPasses = 2 + mostSteps + mostRoutines
+
+-- the playing order of a round: those listed "once the eight actions are done"
+abbrev pub listedIn : Game → List ℕ
+listedIn g = entriesOf (atStart g .game .listed)
 
 module _ (book : List ℕ) where
   -- the steps of routine r in a turn
@@ -142,6 +152,8 @@ module _ (book : List ℕ) where
 
   -- a round: the eight actions, then its passes
   unfoldable pub round : Game → Round
-  round g =
-      let s = atStart g in
-      instant mostPasses (entriesOf (s .game .listed)) s
+  round g = instant mostPasses (listedIn g) (atStart g)
+
+  -- what happens in it
+  abbrev pub historyOf : Game → List Happening
+  historyOf g = round g .played .told

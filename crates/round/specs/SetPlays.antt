@@ -19,11 +19,12 @@ use Rattle.game.specs.Game.{rested, stopped, blank, blankGame, withStart}
 use Rattle.game.specs.Fitting.{routineFits, slotFits, entryFits, lineFits, countersFit, signalsFit, fitsBook}
 use Rattle.orders.specs.SetUp.{newGame, setUp}
 use Rattle.round.specs.State.{numbersWith, isEndThere, isThere}
+use Rattle.round.specs.History.{countBelow}
 use Rattle.round.specs.Actions.{kept, each, placed, atStart}
 use Rattle.round.specs.Jumps.{pastPartner, openingBefore, fromEnd}
 use Rattle.round.specs.Ticks.{fresh, waitsFor, tickOf, tick, effectOn}
 use Rattle.round.specs.Rounds.{ticks, allDone, turn, pass, instant, round}
-use Rattle.round.specs.Answers.{markSteps, marksIn, numbersPerMark, written, roundVerdict, Answer, answer}
+use Rattle.round.specs.Answers.{marksIn, numbersPerMark, written, roundVerdict, Answer, answer}
 
 -- what is seen of a round: its answer, its passes, its marks as they stand in the buffer, and the stages and the playing order behind it
 pub record Seen : Type 0 where
@@ -358,7 +359,7 @@ waitsOn = record { verdict = accepted; game = waiting; passes = 2; marks = 0; bu
 
 pub as-stated :
     (map played setPlays ≡ setPlays) × (afterRounds 4 (t10 .book) ≡ waiting) × (nextRound (t10 .book) waiting ≡ waitsOn)
-unfolding playedFrom answer roundVerdict written marksIn markSteps round instant pass turn allDone ticks effectOn tick tickOf waitsFor
+unfolding playedFrom answer roundVerdict written marksIn countBelow round instant pass turn allDone ticks effectOn tick tickOf waitsFor
     fromEnd openingBefore pastPartner atStart each kept appended isThere isEndThere numbersWith setUp newGame blankGame withStart
     fitsBook routineFits slotFits entryFits lineFits countersFit signalsFit isIn allBelow anyBelow bookVerdict layoutVerdict
     directoryVerdict stepsVerdict nestingVerdict pausingVerdict routineWalk routinePart routineOf stepOf blockBy partnerOf viewAt

@@ -50,18 +50,18 @@ module _ (r : ℕ) (steps : List ℕ) (x : Position) (s : State) where
   abbrev pub onward : Effect → Act
   onward e = Goes (x .place + 1) e
 
-  -- a try of op 8 to 12: what the step comes to if its thing is there, and if it is missing
-  abbrev pub tries : Thing → Act → Act → Tick
-  tries t found lacking =
-      if isThere s t then telling found (past r (x .place) t ∷ []) else telling lacking (missing r (x .place) t ∷ [])
-
   -- where its thing is missing, a routine is to be continued, and rests at position y once the round is being closed
   abbrev pub lacks : Position → Act
   lacks y = if s .eoi then Halts Missed y else Halts Continued x
 
+  -- a try of op 8 to 12: it "finds the thing and completes the step", with this effect, or "it goes no further because that isn't there"
+  abbrev pub tries : Thing → Effect → Position → Tick
+  tries t e y =
+      if isThere s t then telling (onward e) (past r (x .place) t ∷ []) else telling (lacks y) (missing r (x .place) t ∷ [])
+
   -- rules 14 to 18; "every other pause leaves it on its own step"
   abbrev pub waits : Thing → Tick
-  waits t = tries t (onward Nothing) (lacks (fresh (x .place)))
+  waits t = tries t Nothing (fresh (x .place))
 
   -- rules 23 and 24, with the count k
   abbrev pub restsFor : ℕ → Act
@@ -72,11 +72,11 @@ module _ (r : ℕ) (steps : List ℕ) (x : Position) (s : State) where
   waitsFor t k =
       if eqb k 0 && not (isThere s t)
       then telling (onward Nothing) []
-      else tries t (onward Nothing) (lacks (begunAt (x .place) (k - 1)))
+      else tries t Nothing (begunAt (x .place) (k - 1))
 
   -- rules 30 to 32; "a reading that stayed missing, leaves the place on the step that follows it in the book"
   abbrev pub reads : ℕ → ℕ → ℕ → Tick
-  reads e c k = tries (number e k) (onward (Put c (numberAt s e k))) (lacks (fresh (x .place + 1)))
+  reads e c k = tries (number e k) (Put c (numberAt s e k)) (fresh (x .place + 1))
 
   -- rules 5, 6, 9 and 10: into the block where the test holds, and otherwise past it
   abbrev pub tests : ℕ → ℕ → ℤ → Act
@@ -116,7 +116,7 @@ module _ (r : ℕ) (steps : List ℕ) (x : Position) (s : State) where
   abbrev pub quits : Tick
   quits = telling (Halts Ended (fresh (sizeOf steps))) (ended r ∷ [])
 
-  -- where a step stands, or none: in an accepted book, none stands behind a routine's last step and nowhere else
+  -- where a step stands, or none: in an accepted book only the place behind a routine's last step has none
   abbrev pub tickAt : Step → Tick
   tickAt (step.Kind k) = tickOf k
   tickAt step.Refused = quits

@@ -31,7 +31,7 @@ use Rattle.round.specs.declared.Effect.the-variants.{Nothing, Put, Add, Give, G
 use Rattle.round.specs.declared.Act.{Act}
 use Rattle.round.specs.declared.Act.the-variants.{Goes, Halts}
 use Rattle.round.specs.State.{State, Thing, signal, end, number, numberAt, isThere}
-use Rattle.round.specs.Ticks.{Tick, fresh, begunAt, countAt, onward, lacks, tries, restsFor, waitsFor, reads, tickOf, effectOn}
+use Rattle.round.specs.Ticks.{Tick, fresh, begunAt, countAt, onward, tries, restsFor, waitsFor, reads, tickOf, effectOn}
 use Rattle.round.specs.Jumps.{sizeOf}
 use Rattle.round.proofs.Forms.{leaf-there, start-below}
 use Rattle.rules.specs.Instructions.{TERM, nothing}
@@ -95,7 +95,7 @@ module _ (counts : Counts) (r : ℕ) (steps : List ℕ) where
         (t : Thing) (e : Effect) (y : Position) → (isThere s t ≡ true → ByRule k x s ms (onward r steps x s e)) →
         (isThere s t ≡ false → s .eoi ≡ true → Halted r k x s ms Missed y) →
         (isThere s t ≡ false → s .eoi ≡ false → Halted r k x s ms Continued x) →
-        ByRule k x s ms (tries r steps x s t (onward r steps x s e) (lacks r steps x s y) .act)
+        ByRule k x s ms (tries r steps x s t e y .act)
     attempts t e y found rests again =
         by-test (λ (a : Tick). ByRule k x s ms (a .act)) (isThere s t) found (λ none.
         by-test (ByRule k x s ms) (s .eoi) (rests none) (again none))
@@ -103,7 +103,7 @@ module _ (counts : Counts) (r : ℕ) (steps : List ℕ) where
     -- a try of a step that stays at position y
     waiting :
         (t : Thing) (y : Position) → Tried s ms (isThere s t) (instruction r x k) (instruction r y k) → y .place ≡ x .place →
-        ByRule k x s ms (tries r steps x s t (onward r steps x s Nothing) (lacks r steps x s y) .act)
+        ByRule k x s ms (tries r steps x s t Nothing y .act)
     waiting t y w e =
         attempts t Nothing y
         (λ h. passes (w .found h)) (λ h o. stays (w .rests h o) coop-term e) (λ h o. stays (w .again h o) cont-term refl)

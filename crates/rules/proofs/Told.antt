@@ -17,8 +17,8 @@ use Rattle.round.specs.declared.Effect.{Effect}
 use Rattle.round.specs.declared.Effect.the-variants.{Nothing, Put}
 use Rattle.round.specs.declared.Act.{Act}
 use Rattle.round.specs.declared.Act.the-variants.{Goes, Halts}
-use Rattle.round.specs.State.{State, Thing, signal, end, number, Happening, gave, ended, missing, past, marked, isThere}
-use Rattle.round.specs.Ticks.{Tick, fresh, countAt, lacks, waitsFor, tries, onward, tickOf, tickAt, tick, effectOn}
+use Rattle.round.specs.State.{State, Thing, signal, end, number, Happening, gave, ended, missing, past, marked, completed, isThere}
+use Rattle.round.specs.Ticks.{Tick, fresh, countAt, waitsFor, tries, tickOf, tickAt, tick, effectOn}
 use Rattle.round.specs.Rounds.{Ticks, follow, ticks}
 use Rattle.round.specs.Answers.{marksIn}
 use Rattle.round.proofs.Forms.{start-below}
@@ -35,6 +35,7 @@ marks-append (ended r ∷ a) b = marks-append a b
 marks-append (missing r p t ∷ a) b = marks-append a b
 marks-append (past r p t ∷ a) b = marks-append a b
 marks-append (marked r n ∷ a) b = ap (λ l. (r, n) ∷ l) (marks-append a b)
+marks-append (completed r p ∷ a) b = marks-append a b
 
 pub marks-then : (ms : Marks) (a b : List Happening) → (ms ++ marksIn a) ++ marksIn b ≡ ms ++ marksIn (a ++ b)
 marks-then ms a b = rw (append-assoc, ← marks-append)
@@ -55,7 +56,7 @@ module _ (counts : Counts) (r : ℕ) (steps : List ℕ) where
   module _ (x : Position) (s : State) where
     tries-told :
         (t : Thing) (e : Effect) (y : Position) → marksOf r e ≡ [] → StartsOne (counts .routines) e →
-        TickTold (tries r steps x s t (onward r steps x s e) (lacks r steps x s y))
+        TickTold (tries r steps x s t e y)
     unfolding marksIn
     tries-told t e y m b =
         by-test TickTold (isThere s t) (λ h. (sym m, b))
@@ -115,7 +116,7 @@ module _ (counts : Counts) (r : ℕ) (steps : List ℕ) where
       step :
           (act : Act) (told : List Happening) → Told act told →
           ((q : ℕ) (u : State) → Sound (counts .routines) u → TurnKeeps u (ticks n counts r steps (fresh q) u)) →
-          TurnKeeps s (follow act told s (λ q u. ticks n counts r steps (fresh q) u))
+          TurnKeeps s (follow r (x .place) act told s (λ q u. ticks n counts r steps (fresh q) u))
       step (Goes q e) told t on =
           let k = effect-kept (counts .routines) s a e (t .1) in
           let rest = on q (effectOn e s) (k .sound) in
@@ -129,7 +130,7 @@ module _ (counts : Counts) (r : ℕ) (steps : List ℕ) where
   pub ends-of :
       (n : ℕ) (x : Position) (s : State) (ms : Marks) → InTime n counts r steps x s → Sound (counts .routines) s →
       ticks n counts r steps x s .state .tooMany ≡ false → EndsAs (ticks n counts r steps x s) n x s ms
-  unfolding ticks InTime
+  unfolding ticks InTime marksIn
   ends-of zero x s ms time a none = absurd time
   ends-of (suc n) x s ms time a none =
       let t = tick counts r steps x s in
@@ -140,10 +141,10 @@ module _ (counts : Counts) (r : ℕ) (steps : List ℕ) where
 
       step :
           (act : Act) (told : List Happening) → actAt counts r steps x s ≡ act → Told act told →
-          IfItGoesOn act s (λ y u. InTime n counts r steps y u) → follow act told s rest .state .tooMany ≡ false →
+          IfItGoesOn act s (λ y u. InTime n counts r steps y u) → follow r (x .place) act told s rest .state .tooMany ≡ false →
           ((q : ℕ) (u : State) (us : Marks) → InTime n counts r steps (fresh q) u → Sound (counts .routines) u →
           rest q u .state .tooMany ≡ false → EndsAs (rest q u) n (fresh q) u us) →
-          EndsAs (follow act told s rest) (suc n) x s ms
+          EndsAs (follow r (x .place) act told s rest) (suc n) x s ms
       step (Goes q e) told eq t time none on =
           let k = effect-kept (counts .routines) s a e (t .1) in
           let after = ticks-kept n (fresh q) (effectOn e s) (k .sound) .1 in

@@ -1,0 +1,34 @@
+-- What is counted in a book, and what is counted and found in a round's history.
+use Prim.Native.Nat.{ℕ, zero, suc, _+_}
+use mathlib.Core.Bool.{Bool}
+use mathlib.Core.Path.{_≡_}
+use mathlib.Core.List.{List, [], _∷_}
+use mathlib.Core.Logic.{_⊎_}
+use Rattle.numbers.specs.Choice.{if_then_else_}
+use Rattle.book.specs.Layout.{stepCount}
+use Rattle.round.specs.State.{Happening}
+
+-- how many of the first n places pass a test
+unfoldable pub countBelow : (ℕ → Bool) → ℕ → ℕ
+countBelow test zero = 0
+countBelow test (suc n) = countBelow test n + (if test n then 1 else 0)
+
+-- how many steps of some routines of a book are in a set of steps, each a routine and a place
+unfoldable pub stepsIn : List ℕ → (ℕ → ℕ → Bool) → List ℕ → ℕ
+stepsIn book set [] = 0
+stepsIn book set (r ∷ rs) = countBelow (set r) (stepCount book r) + stepsIn book set rs
+
+-- how many of the things that happened pass a test
+unfoldable pub howMany : (Happening → Bool) → List Happening → ℕ
+howMany test [] = 0
+howMany test (h ∷ told) = let rest = howMany test told in if test h then rest + 1 else rest
+
+-- P holds of something that happened
+abbrev pub Somewhere : (Happening → Type 0) → List Happening → Type 0
+Somewhere P [] = ⊥
+Somewhere P (h ∷ told) = P h ⊎ Somewhere P told
+
+-- r is one of some routines
+abbrev pub Among : ℕ → List ℕ → Type 0
+Among r [] = ⊥
+Among r (q ∷ qs) = (r ≡ q) ⊎ Among r qs
