@@ -75,10 +75,6 @@ module _ (l : Line) (r : ℕ) (z : length (l .items) ≡ mostEntries) where
               (λ j n a b e. t .once i j a (omega arith) (sym (joined-before i (λ k. omega arith)) ∙ e));
         }
 
-  pub start-right : {routines : ℕ} (stage : ℕ) → LineRight l routines → r < routines → LineRight (withStart l r stage) routines
-  start-right {routines} stage t below =
-      start-either l r stage (λ m. LineRight m routines) (λ e. t) (λ room e new. joined-right room t below new)
-
   pub starts-start : {s : List ℕ} {g : Game} → Starts s g l → r < routinesOf s → Starts s g (withStart l r (routineAt g r .stage))
   starts-start {s} {g} t below =
       start-either l r (routineAt g r .stage) (Starts s g) (λ e. t) (λ room stage new.

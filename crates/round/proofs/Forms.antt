@@ -1,12 +1,10 @@
--- What the form that stands at a place of a routine says of the step there, that a step's op is its kind's, and that a start names a
--- routine of the book. A step that stands is one of the kinds, and a kind is told by its form; the table has the ops, row by row, and the
--- routine of a start is its row's a.
-use Prim.Native.Nat.{ℕ, _≤_, _<_}
+-- What the form that stands at a place of a routine says of the step there, and that a step's op is its kind's. A step that stands is one
+-- of the kinds, and a kind is told by its form; the table has the ops, row by row.
+use Prim.Native.Nat.{ℕ, _≤_}
 use mathlib.Core.Path.{_≡_, refl, ap, _∙_}
 use mathlib.Core.Bool.{Bool, true, false}
 use mathlib.Core.List.{List}
 use mathlib.Core.Logic.{_⊎_, inl, inr}
-use native.Mathlib.Omega.{arith}
 use lib.Dec.{eqb}
 use lib.IntN.{ℤ}
 use Rattle.numbers.specs.Choice.{if_then_else_}
@@ -18,12 +16,13 @@ use Rattle.kinds.specs.declared.Counts.{Counts}
 use Rattle.kinds.specs.declared.Row.{Row}
 use Rattle.kinds.specs.declared.Form.{Form}
 use Rattle.kinds.specs.declared.Form.the-variants.{Plain, Pausing, IfOpening, ElseMarker, WhileOpening, EndMarker}
-use Rattle.kinds.specs.Steps.{table, rowOf, opAt, fieldA, fieldB, fieldN, stepAt}
+use Rattle.kinds.specs.Steps.{table, opAt, fieldA, fieldB, fieldN, stepAt}
 use Rattle.kinds.specs.Forms.{formOf}
-use Rattle.kinds.proofs.Readable.{step-missing, step-readable}
-use Rattle.blocks.specs.Blocks.{View, stands, viewAt}
+use Rattle.kinds.proofs.Readable.{step-missing}
+use Rattle.blocks.specs.Blocks.{View, stands}
 use Rattle.blocks.proofs.Scan.{Rows, _and_, step-holds, row-kind, kind-there}
 use Rattle.round.specs.Jumps.{sizeOf}
+use Rattle.round.proofs.Leads.{formAt}
 
 -- what a kind of a form is
 abbrev Formed : Form → Kind → Type 0
@@ -94,20 +93,9 @@ own-kinds counts a b n =
     refl and refl and refl and refl and refl and refl and refl and refl and refl and refl and refl and refl and refl and refl and refl
     and refl and refl and refl and refl and refl and refl and tt
 
--- the routine that a start names is its a
-start-named :
-    (counts : Counts) (op a b : ℕ) (n : ℤ) {t : ℕ} →
-    op ≡ opOf (Start t) → rowOf counts op a b n .4 ≡ Start t → a < rowOf counts op a b n .0 → t < counts .routines
-unfolding rowOf
-start-named counts op a b n {t} e k h =
-    let start : rowOf counts (opOf (Start t)) a b n .4 ≡ Start t = rw e at k in
-    let named : a ≡ t = cc in
-    let below : a < counts .routines = rw e at h in
-    omega arith
-
 module _ (counts : Counts) (steps : List ℕ) where
   abbrev at : ℕ → View
-  at = viewAt counts steps (sizeOf steps)
+  at = formAt counts steps
 
   form-there : (p : ℕ) {f : Form} → at p ≡ stands f → (k : Kind) × (stepAt counts steps p ≡ step.Kind k) × Formed f k
   form-there p h = let (k, e, g) = kind-there counts steps (sizeOf steps) p h in (k, e, rw g at (formed k))
@@ -141,9 +129,3 @@ module _ (counts : Counts) (steps : List ℕ) where
   step-op p e =
       step-holds OwnKind counts steps p (own-kinds counts (fieldA steps p) (fieldB steps p) (fieldN steps p)) e
       ∙ ap opOf (row-kind counts steps p e)
-
-  -- the routine that a start names is one of the book's
-  pub start-below : (p : ℕ) {t : ℕ} → stepAt counts steps p ≡ step.Kind (Start t) → t < counts .routines
-  start-below p e =
-      start-named counts (opAt steps p) (fieldA steps p) (fieldB steps p) (fieldN steps p) (step-op p e) (row-kind counts steps p e)
-      (step-readable counts steps p e .aFits)

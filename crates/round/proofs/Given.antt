@@ -1,8 +1,8 @@
--- A round's flag is set where it tells of more numbers than are kept. As many numbers are kept as were told of, up to the most, and a step,
--- a turn, a pass and the passes of a round keep that, with what each tells of added; by induction on the steps and on the passes allowed.
-use Prim.Native.Nat.{ℕ, zero, suc, _+_, _<_, _≤_}
+-- A round's flag is set where it tells of more numbers than are kept. As many numbers are kept as were told of, up to the most, and a step
+-- keeps that, with what it tells of added; so do a turn, a pass and the passes of a round.
+use Prim.Native.Nat.{ℕ, _+_, _<_, _≤_}
 use mathlib.Core.Path.{_≡_, refl, sym, _∙_}
-use mathlib.Core.Bool.{Bool, true, false, _&&_, _||_, not}
+use mathlib.Core.Bool.{Bool, true, false}
 use mathlib.Core.List.{List, [], _∷_, _++_}
 use native.Mathlib.Nat.{add-zero, zero-add}
 use native.Mathlib.Omega.{arith}
@@ -10,32 +10,26 @@ use borrow.Author.Tests.{ltb-true, ltb-false, lt-ltb, le-ltb, ne-eqb}
 use lib.Dec.{eqb, ltb}
 use lib.ListN.{length, length-append}
 use lib.IntN.{ℤ}
-use Rattle.kinds.specs.declared.Kind.{Kind}
-use Rattle.kinds.specs.declared.Kind.the-variants as kind
-use Rattle.kinds.specs.declared.Step.{Step}
-use Rattle.kinds.specs.declared.Step.the-variants as step
 use Rattle.kinds.specs.declared.Counts.{Counts}
-use Rattle.kinds.specs.Steps.{stepAt}
 use Rattle.book.specs.Book.{countsOf, routineSteps}
 use Rattle.game.specs.declared.Game.{Game}
 use Rattle.game.specs.Lines.{entriesOf}
-use Rattle.game.specs.Game.{continuing, routineAt}
 use Rattle.game.proofs.Below.{by-test}
-use Rattle.round.specs.declared.Ending.{Ending}
-use Rattle.round.specs.declared.Ending.the-variants.{Ended, Rested, Missed, Continued}
 use Rattle.round.specs.declared.Position.{Position}
 use Rattle.round.specs.declared.Effect.{Effect}
-use Rattle.round.specs.declared.Effect.the-variants.{Nothing, Put, GiveNumber}
-use Rattle.round.specs.declared.Act.{Act}
-use Rattle.round.specs.declared.Act.the-variants.{Goes, Halts}
-use Rattle.round.specs.State.{State, Thing, signal, end, number, Happening, gave, missing, numbersOf, isThere}
+use Rattle.round.specs.declared.Effect.the-variants.{GiveNumber}
+use Rattle.round.specs.State.{State, completed, Happening, gave, numbersOf}
 use Rattle.round.specs.History.{howMany}
-use Rattle.round.specs.Actions.{positionOf, atStart}
-use Rattle.round.specs.Ticks.{Tick, fresh, countAt, tries, waitsFor, tickOf, tickAt, tick, mostNumbers, effectOn}
-use Rattle.round.specs.Rounds.{Ticks, follow, ticks, mostTicks, withEnd, Played, allDone, again, mostPasses}
-use Rattle.round.specs.Rounds.{ticksOf, turn, pass, Round, instant, round}
+use Rattle.round.specs.Actions.{atStart}
+use Rattle.round.specs.Ticks.{mostNumbers, effectOn}
+use Rattle.round.specs.Rounds.{mostPasses, ticksOf, turn, instant, round}
 use Rattle.round.specs.Tells.{givesNumber, numbersGiven}
-use Rattle.round.proofs.Histories.{many-append}
+use Rattle.round.proofs.Along.{all-each, instant-along}
+use Rattle.round.proofs.Acts.{Right, isGiving, Says}
+use Rattle.round.proofs.Histories.{many-append, stops-none}
+use Rattle.round.proofs.Stepping.{ticks-along}
+use Rattle.round.proofs.Effects.{effect-ungiven}
+use Rattle.round.proofs.AfterTurn.{end-keeps, turn-by}
 
 -- after n numbers were given, so many are kept, and this says whether more were given
 data Given (n kept : ℕ) : Bool → Type 0 where
@@ -63,141 +57,67 @@ one-lost r (few l e) = many (omega arith) (omega arith)
 one-lost r (many l e) = many (omega arith) e
 
 -- from one state to another as many numbers are given as are told of
-abbrev Gives : State → State → List Happening → Type 0
-Gives s u told = (n : ℕ) → GivenIn n s → GivenIn (n + numbersGiven told) u
+abbrev Gives : State → List Happening → State → Type 0
+Gives s told u = (n : ℕ) → GivenIn n s → GivenIn (n + numbersGiven told) u
 
--- the numbers of both, one after the other
-both-given :
-    (a b : List Happening) (n : ℕ) {kept : ℕ} {over : Bool} → Given ((n + numbersGiven a) + numbersGiven b) kept over →
-    Given (n + numbersGiven (a ++ b)) kept over
-both-given a b n g =
-    let both = many-append givesNumber a b in
+gives-same : (s : State) → Gives s [] s
+unfolding howMany
+gives-same s = none refl
+
+gives-then : (s u v : State) (a b : List Happening) → Gives s a u → Gives u b v → Gives s (a ++ b) v
+gives-then s u v a b first second n g =
+    let sum = many-append givesNumber a b in
     let e : n + numbersGiven (a ++ b) ≡ (n + numbersGiven a) + numbersGiven b = omega arith in
-    rw e g
+    rw e (second (n + numbersGiven a) (first n g))
 
-gives-number : (s : State) (e : ℕ) (v : ℤ) → Gives s (effectOn (GiveNumber e v) s) (gave e (length (numbersOf s e) + 1) ∷ [])
+-- an effect that gives no signal gives no number
+no-number : (s : State) (e : Effect) → isGiving e ≡ false → (n : ℕ) → GivenIn n s → GivenIn (n + 0) (effectOn e s)
+no-number s e quiet n g = let same = effect-ungiven s e quiet in rw (same .numbers, same .tooMany) (none refl n g)
+
+one-number : (s : State) (e : ℕ) (v : ℤ) → Gives s (gave e (length (numbersOf s e) + 1) ∷ []) (effectOn (GiveNumber e v) s)
 unfolding effectOn howMany
-gives-number s e v n h =
+one-number s e v n g =
     let one : eqb (length (numbersOf s e) + 1) 0 ≡ false = ne-eqb (length (numbersOf s e) + 1) 0 (λ z. omega arith) in
     rw one (
     by-test (GivenIn (n + 1)) (ltb (length (s .numbers)) mostNumbers)
-    (λ r. rw length-append (one-kept (ltb-true _ _ r) h))
-    (λ r. one-lost (ltb-false _ _ r) h)
+    (λ room. rw length-append (one-kept (ltb-true _ _ room) g))
+    (λ full. one-lost (ltb-false _ _ full) g)
     )
 
-module _ (counts : Counts) (r : ℕ) (steps : List ℕ) where
-  -- what a step in this state tells of is what its effect gives
-  abbrev StepGives : State → Act → List Happening → Type 0
-  StepGives s (Goes q e) told = Gives s (effectOn e s) told
-  StepGives s (Halts h y) told = Gives s s told
-
-  module _ (x : Position) (s : State) where
-    abbrev TickGives : Tick → Type 0
-    TickGives t = StepGives s (t .act) (t .told)
-
-    tries-gives :
-        (t : Thing) (e : Effect) (y : Position) → Gives s (effectOn e s) [] →
-        TickGives (tries r steps x s t e y)
-    unfolding howMany
-    tries-gives t e y b =
-        by-test TickGives (isThere s t) (λ h. b)
-        (λ h. by-test (λ a. StepGives s a (missing r (x .place) t ∷ [])) (s .eoi) (λ k. none refl) (λ k. none refl))
-
-    waits-gives : (t : Thing) (y : Position) → TickGives (tries r steps x s t Nothing y)
-    unfolding effectOn howMany
-    waits-gives t y = tries-gives t Nothing y (none refl)
-
-    waits-for-gives : (t : Thing) (k : ℕ) → TickGives (waitsFor r steps x s t k)
-    unfolding waitsFor effectOn howMany
-    waits-for-gives t k = by-test TickGives (eqb k 0 && not (isThere s t)) (λ h. none refl) (λ h. waits-gives t _)
-
-    kind-gives : (k : Kind) → TickGives (tickOf r steps x s k)
-    unfolding tickOf effectOn howMany
-    kind-gives (kind.Mark n) = none refl
-    kind-gives (kind.Set c n) = none refl
-    kind-gives (kind.Add c n) = none refl
-    kind-gives (kind.Take c d) = none refl
-    kind-gives (kind.Signal e) = none refl
-    kind-gives (kind.SignalNumber e c) = gives-number s e _
-    kind-gives kind.Rest = none refl
-    kind-gives (kind.RestFor n) = by-test (λ a. StepGives s a []) (eqb (countAt x n) 0) (λ h. none refl) (λ h. none refl)
-    kind-gives (kind.Wait e) = waits-gives (signal e) _
-    kind-gives (kind.WaitFor e n) = waits-for-gives (signal e) _
-    kind-gives (kind.Join t) = waits-gives (end t) _
-    kind-gives (kind.JoinFor t n) = waits-for-gives (end t) _
-    kind-gives (kind.Read e c k) = tries-gives (number e k) (Put c _) _ (none refl)
-    kind-gives (kind.Start t) = none refl
-    kind-gives (kind.Stop t) = none refl
-    kind-gives (kind.Suspend t) = none refl
-    kind-gives (kind.Resume t) = none refl
-    kind-gives (kind.If c relation n) = none refl
-    kind-gives kind.Else = none refl
-    kind-gives (kind.While c relation n) = none refl
-    kind-gives kind.End = none refl
-
-    step-gives : (p : Step) → TickGives (tickAt r steps x s p)
-    unfolding howMany
-    step-gives (step.Kind k) = kind-gives k
-    step-gives step.Refused = none refl
-
-    tick-gives : TickGives (tick counts r steps x s)
-    unfolding tick
-    tick-gives = step-gives (stepAt counts steps (x .place))
-
-  ticks-give : (n : ℕ) (x : Position) (s : State) → Gives s (ticks n counts r steps x s .state) (ticks n counts r steps x s .told)
-  unfolding ticks howMany
-  ticks-give zero x s = none refl
-  ticks-give (suc n) x s =
-      let t = tick counts r steps x s in
-      behind (t .act) (t .told) (tick-gives x s) (λ q u. ticks-give n (fresh q) u)
-    where
-      rest : ℕ → State → Ticks
-      rest q u = ticks n counts r steps (fresh q) u
-
-      behind :
-          (act : Act) (told : List Happening) → StepGives s act told → ((q : ℕ) (u : State) → Gives u (rest q u .state) (rest q u .told)) →
-          Gives s (follow r (x .place) act told s rest .state) (follow r (x .place) act told s rest .told)
-      behind (Goes q e) told b on = λ n g. both-given told (rest q (effectOn e s) .told) n (on q (effectOn e s) _ (b n g))
-      behind (Halts h y) told b on = b
-
--- a routine's end gives no number
-end-gives : (h : Ending) (r : ℕ) (s : State) {n : ℕ} → GivenIn n s → GivenIn n (withEnd h r s)
-end-gives Ended r s g = g
-end-gives Rested r s g = g
-end-gives Missed r s g = g
-end-gives Continued r s g = g
+-- a step that goes on
+goes-gives :
+    (counts : Counts) (r : ℕ) (steps : List ℕ) (x : Position) (s : State) (e : Effect) (told : List Happening) → Right counts s e →
+    Says counts r steps x s e told → Gives s (completed r (x .place) ∷ told) (effectOn e s)
+unfolding effectOn howMany
+goes-gives counts r steps x s e told right (Says.silent quiet o) = no-number s e quiet
+goes-gives counts r steps x s e told right (Says.marks o) = none refl
+goes-gives counts r steps x s e told right (Says.gives o) = none refl
+goes-gives counts r steps x s e told right (Says.givesNumber {e = a} {v} o) = one-number s a v
+goes-gives counts r steps x s e told right (Says.finds quiet o there) = no-number s e quiet
 
 module _ (book : List ℕ) where
-  abbrev PlayGives : State → Played → Type 0
-  PlayGives s p = Gives s (p .state) (p .told)
-
-  turn-gives : (r : ℕ) (s : State) → PlayGives s (turn book r s)
-  unfolding turn howMany
+  turn-gives : (r : ℕ) (s : State) → Gives s (turn book r s .told) (turn book r s .state)
   turn-gives r s =
-      let x = routineAt (s .game) r in
+      let t = ticksOf book r s in
       let steps = routineSteps book r in
-      by-test (PlayGives s) (x .suspended || not (eqb (x .stage) continuing)) (λ h. none refl)
-      (λ h n g. end-gives (ticksOf book r s .ending) r _ (ticks-give (countsOf book) r steps (mostTicks steps) (positionOf x) s n g))
+      let all =
+      ticks-along (countsOf book) r steps Gives gives-same gives-then (goes-gives (countsOf book) r steps)
+      (λ x u how y told stops. none (stops-none givesNumber refl (λ a. refl) stops)) in
+      turn-by book r s (λ p. Gives s (p .told) (p .state)) (λ h. gives-same s)
+      (λ h n g. end-keeps (GivenIn (n + numbersGiven (t .told))) (t .ending) r _ (λ k. k) (all _ _ s n g))
 
-  pass-gives : (rs : List ℕ) (s : State) → PlayGives s (pass book rs s)
-  unfolding pass howMany
-  pass-gives [] s = none refl
-  pass-gives (r ∷ rs) s =
-      let first = turn book r s in
-      λ n g. both-given (first .told) (pass book rs (first .state) .told) n (pass-gives rs (first .state) _ (turn-gives r s n g))
+  -- whichever routines are listed
+  instant-gives :
+      (n : ℕ) (rs : List ℕ) (s : State) → Gives s (instant book n rs s .played .told) (instant book n rs s .played .state)
+  unfolding howMany
+  instant-gives n rs =
+      instant-along Gives gives-same gives-then book (λ r. Unit {0}) (λ r listed. turn-gives r) (λ s. none refl) n rs
+      (all-each (λ r. Unit {0}) (λ r. tt) rs)
 
-  instant-gives : (n : ℕ) (rs : List ℕ) (s : State) → PlayGives s (instant book n rs s .played)
-  unfolding instant howMany
-  instant-gives zero rs s = none refl
-  instant-gives (suc n) rs s =
-      let first = pass book rs s in
-      let u = again (first .state) in
-      by-test (λ (d : Round). PlayGives s (d .played)) (allDone (first .turns)) (λ h. pass-gives rs s)
-      (λ h k g. both-given (first .told) (instant book n rs u .played .told) k (instant-gives n rs u _ (pass-gives rs s k g)))
-
-pub too-many : (s : List ℕ) (g : Game) → round s g .played .state .tooMany ≡ ltb mostNumbers (numbersGiven (round s g .played .told))
+pub too-many :
+    (book : List ℕ) (g : Game) → round book g .played .state .tooMany ≡ ltb mostNumbers (numbersGiven (round book g .played .told))
 unfolding round atStart
-too-many s g =
-    let u = atStart g in
-    let h = instant-gives s mostPasses (entriesOf (u .game .listed)) u 0 (few (omega arith) refl) in
+too-many book g =
+    let s = atStart g in
+    let h = instant-gives book mostPasses (entriesOf (s .game .listed)) s 0 (few (omega arith) refl) in
     given-test h ∙ rw zero-add

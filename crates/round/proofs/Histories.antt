@@ -1,18 +1,113 @@
--- How many of the things that happened pass a test, one history after the other.
+-- What is told: how many of the things that happened pass a test, what is somewhere among them, and what comes by them. By induction on
+-- what is told, and for what one step tells by the table of Acts.antt.
 use Prim.Native.Nat.{ℕ, _+_}
-use mathlib.Core.Path.{_≡_}
-use mathlib.Core.Bool.{Bool, true, false}
+use mathlib.Core.Path.{_≡_, refl, sym}
+use mathlib.Core.Bool.{Bool, true, false, true≢false}
 use mathlib.Core.List.{List, [], _∷_, _++_}
+use mathlib.Core.Logic.{_⊎_, inl, inr}
 use native.Mathlib.Omega.{arith}
+use lib.IntN.{ℤ}
 use Rattle.numbers.specs.Choice.{if_then_else_}
-use Rattle.round.specs.State.{Happening}
-use Rattle.round.specs.History.{howMany}
+use Rattle.kinds.specs.declared.Counts.{Counts}
+use Rattle.round.specs.declared.Ending.{Ending}
+use Rattle.round.specs.declared.Position.{Position}
+use Rattle.round.specs.declared.Effect.{Effect}
+use Rattle.round.specs.State.{State, Thing, signal, end, number, Happening, gave, ended, missing, past, marked}
+use Rattle.round.specs.History.{howMany, Somewhere}
+use Rattle.round.specs.Demand.{givesSignal, endsRoutine, Comes, signalGiven, routineEnded, numberGiven}
+use Rattle.round.proofs.Acts.{Says, silent, marks, gives, givesNumber, finds, Stops, ends, rests, misses, continues}
+use Rattle.round.proofs.TurnLaws.{moves}
 
-pub many-append : (test : Happening → Bool) (a b : List Happening) → howMany test (a ++ b) ≡ howMany test a + howMany test b
-unfolding howMany
-many-append test [] b = omega arith
-many-append test (h ∷ a) b = let rest = many-append test a b in counted (test h) _ _ _ rest
-  where
-    counted : (t : Bool) (m n k : ℕ) → m ≡ n + k → (if t then m + 1 else m) ≡ (if t then n + 1 else n) + k
-    counted true m n k e = omega arith
-    counted false m n k e = e
+module _ (test : Happening → Bool) where
+  pub many-append : (a b : List Happening) → howMany test (a ++ b) ≡ howMany test a + howMany test b
+  unfolding howMany
+  many-append [] b = omega arith
+  many-append (h ∷ a) b = let rest = many-append a b in counted (test h) _ _ _ rest
+    where
+      counted : (t : Bool) (m n k : ℕ) → m ≡ n + k → (if t then m + 1 else m) ≡ (if t then n + 1 else n) + k
+      counted true m n k e = omega arith
+      counted false m n k e = e
+
+  -- nothing of the one and nothing of the other
+  pub none-of-both : (a b : List Happening) → howMany test a ≡ 0 → howMany test b ≡ 0 → howMany test (a ++ b) ≡ 0
+  none-of-both a b h k = let both = many-append a b in omega arith
+
+  -- where nothing that passes a test is told, nothing is that would have to pass it
+  pub none-told :
+      (P : Happening → Type 0) → ((h : Happening) → P h → test h ≡ true) → (told : List Happening) → howMany test told ≡ 0 →
+      Somewhere P told → ⊥
+  unfolding howMany
+  none-told P passes (h ∷ told) e (inl p) =
+      let one : howMany test told + 1 ≡ 0 = rw (passes h p) at e in
+      absurd (omega arith)
+  none-told P passes (h ∷ told) e (inr p) = none-told P passes told (rest (test h) _ e) p
+    where
+      rest : (t : Bool) (n : ℕ) → (if t then n + 1 else n) ≡ 0 → n ≡ 0
+      rest true n k = absurd (omega arith)
+      rest false n k = k
+
+  -- what a step of routine r at position x tells
+  module _ {counts : Counts} {r : ℕ} {steps : List ℕ} {x : Position} {s : State} where
+    pub says-none :
+        ((n : ℤ) → test (marked r n) ≡ false) → ((e k : ℕ) → test (gave e k) ≡ false) →
+        ((t : Thing) → test (past r (x .place) t) ≡ false) →
+        {e : Effect} {told : List Happening} → Says counts r steps x s e told → howMany test told ≡ 0
+    unfolding howMany
+    says-none mark give find (silent g o) = refl
+    says-none mark give find (marks {n} h) = rw (mark n)
+    says-none mark give find (gives {e} h) = rw (give e 0)
+    says-none mark give find (givesNumber {e} h) = rw give
+    says-none mark give find (finds {t = t} g o h) = rw (find t)
+
+    pub stops-none :
+        test (ended r) ≡ false → ((t : Thing) → test (missing r (x .place) t) ≡ false) →
+        {how : Ending} {y : Position} {told : List Happening} → Stops counts r steps x s how y told → howMany test told ≡ 0
+    unfolding howMany
+    stops-none over miss ends = rw over
+    stops-none over miss rests = refl
+    stops-none over miss (misses {t = t} a h e) = rw (miss t)
+    stops-none over miss (continues {t} a h e) = rw (miss t)
+
+pub moves-append : (a b : List Happening) → moves (a ++ b) ≡ moves a + moves b
+moves-append a b = omega (arith, many-append givesSignal a b, many-append endsRoutine a b)
+
+-- somewhere in two histories
+module _ (P : Happening → Type 0) where
+  pub somewhere-append : (a b : List Happening) → Somewhere P (a ++ b) → Somewhere P a ⊎ Somewhere P b
+  somewhere-append [] b h = inr h
+  somewhere-append (x ∷ a) b (inl h) = inl (inl h)
+  somewhere-append (x ∷ a) b (inr h) = elim (somewhere-append a b h) [ inl k ↦ inl (inr k) | inr k ↦ inr k ]
+
+  in-first : (a b : List Happening) → Somewhere P a → Somewhere P (a ++ b)
+  in-first (h ∷ a) b (inl w) = inl w
+  in-first (h ∷ a) b (inr w) = inr (in-first a b w)
+
+  pub in-second : (a b : List Happening) → Somewhere P b → Somewhere P (a ++ b)
+  in-second [] b w = w
+  in-second (h ∷ a) b w = inr (in-second a b w)
+
+  -- in the one or in the other, as a flag says
+  pub in-either : (a b : List Happening) (t : Bool) → (t ≡ true → Somewhere P a) → (t ≡ false → Somewhere P b) → Somewhere P (a ++ b)
+  in-either a b true f s = in-first a b (f refl)
+  in-either a b false f s = in-second a b (s refl)
+
+-- a thing that a step gives
+abbrev pub isGift : Thing → Bool
+isGift (signal e) = true
+isGift (end r) = false
+isGift (number e k) = true
+
+-- it comes with a signal given, and a routine's end with an end
+pub gift-given : {t : Thing} → isGift t ≡ true → (h : Happening) → Comes t h → givesSignal h ≡ true
+gift-given g h signalGiven = refl
+gift-given g h routineEnded = absurd (true≢false (sym g))
+gift-given g h numberGiven = refl
+
+pub end-ends : {r : ℕ} (h : Happening) → Comes (end r) h → endsRoutine h ≡ true
+end-ends h routineEnded = refl
+
+-- so where nothing moves, nothing comes
+pub nothing-comes : (t : Thing) (told : List Happening) → moves told ≡ 0 → Somewhere (Comes t) told → ⊥
+nothing-comes (signal e) told m = none-told givesSignal (Comes (signal e)) (gift-given refl) told (omega arith)
+nothing-comes (end r) told m = none-told endsRoutine (Comes (end r)) end-ends told (omega arith)
+nothing-comes (number e k) told m = none-told givesSignal (Comes (number e k)) (gift-given refl) told (omega arith)

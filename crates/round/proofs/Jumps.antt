@@ -19,10 +19,11 @@ use Rattle.kinds.specs.declared.Form.{Form}
 use Rattle.kinds.specs.declared.Form.the-variants.{Plain, Pausing, IfOpening, ElseMarker, WhileOpening, EndMarker}
 use Rattle.kinds.specs.Steps.{table, opAt, fieldA, fieldB, fieldN}
 use Rattle.kinds.specs.Forms.{formOf}
-use Rattle.blocks.specs.Blocks.{View, stands, viewAt, opWhile}
+use Rattle.blocks.specs.Blocks.{View, stands, opWhile}
 use Rattle.blocks.specs.Parse.{ParsedBlock, empty, more, ParsedStep, plain, pausing, ifOnly, ifElse, loop}
 use Rattle.blocks.proofs.Scan.{Rows, _and_, step-holds, row-kind, kind-there, finds-partner}
 use Rattle.round.specs.Jumps.{sizeOf, pastPartner, openingBy, openingBefore, fromEnd}
+use Rattle.round.proofs.Leads.{formAt}
 
 -- openingBy's look at place p, by the form of the step there instead of its op
 abbrev lookAt : Form → (ℕ → ℕ) → ℕ → ℕ → ℕ
@@ -67,7 +68,7 @@ module _ (on : ℕ → ℕ) (d p : ℕ) where
 -- a routine's part of the book
 module _ (counts : Counts) (steps : List ℕ) where
   abbrev at : ℕ → View
-  at = viewAt counts steps (sizeOf steps)
+  at = formAt counts steps
 
   place-look : (d p : ℕ) {f : Form} → at p ≡ stands f → SameLook (λ e. openingBefore steps e p) d p (opAt steps p) f
   place-look d p h =

@@ -1,7 +1,66 @@
-pub mod Histories
+-- what a step comes to, by its form, its fields and its kind
+pub mod Leads
+pub mod Acts
+pub mod Fields
 pub mod Forms
-pub mod Given
-pub mod Jumps
-pub mod Marks
-pub mod Telling
+pub mod Tries
+pub mod Sorting
+pub mod Asking
 pub mod Timed
+-- where a turn goes, and that it ends
+pub mod Jumps
+pub mod Falls
+pub mod Parsed
+pub mod Counting
+pub mod Ahead
+pub mod Lasting
+-- what is told, what is claimed of turns, and how a claim goes along steps, turns and passes
+pub mod TurnLaws
+pub mod Histories
+pub mod Along
+pub mod Stepping
+pub mod Shaping
+-- the eight actions, and the state behind them
+pub mod Maps
+pub mod Entries
+pub mod Actions
+pub mod Listing
+pub mod Sound
+pub mod Starting
+-- what steps and turns keep and bring
+pub mod Seats
+pub mod Effects
+pub mod Fitting
+pub mod AfterTurn
+pub mod Coming
+pub mod Staying
+pub mod Outcomes
+pub mod Turned
+pub mod Moving
+pub mod Again
+pub mod Lawful
+-- the passes, from the laws of turns
+pub mod Waiting
+pub mod Closing
+pub mod CatchingUp
+pub mod Passes
+-- what is counted: steps completed, and what is told
+pub mod BookSteps
+pub mod Paying
+pub mod PayingPasses
+pub mod Accounts
+pub mod Given
+pub mod Marks
+-- the round as a whole
+pub mod Enough
+pub mod OneStep
+pub mod Once
+pub mod After
+pub mod Telling
+pub mod Closed
+pub mod Demand
+pub mod Ends
+pub mod Misses
+pub mod Trying
+pub mod Tried
+pub mod Whole

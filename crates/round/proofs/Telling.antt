@@ -22,57 +22,60 @@ use Rattle.round.specs.Answers.{spaceFor, roundVerdict, Answer, turnedDo
 use Rattle.round.specs.Tells.{numbersGiven, RoundTells}
 use Rattle.round.proofs.Given.{too-many}
 
-pub round-told-only : {s : List ℕ} {g : Game} {buffer : List ℤ} {v : Verdict} → RoundTells s g buffer v → roundVerdict s g buffer ≡ v
+pub round-told-only :
+    {book : List ℕ} {g : Game} {buffer : List ℤ} {v : Verdict} → RoundTells book g buffer v → roundVerdict book g buffer ≡ v
 unfolding roundVerdict
-round-told-only {s} (RoundTells.book t) = orElse-told _ _ (told-only s t)
-round-told-only {s} {g} (RoundTells.unfit a m) = unfit-told s g _ a m
-round-told-only {s} {g} (RoundTells.short a f h) = past-fit s g _ a f ∙ rw (lt-leb _ _ h)
-round-told-only {s} {g} (RoundTells.tooMany a f h m) = past-fit s g _ a f ∙ rw (le-leb _ _ h, too-many s g, lt-ltb _ _ m)
-round-told-only {s} {g} (RoundTells.nothing a f h m) = past-fit s g _ a f ∙ rw (le-leb _ _ h, too-many s g, le-ltb _ _ m)
+round-told-only {book} (RoundTells.book t) = orElse-told _ _ (told-only book t)
+round-told-only {book} {g} (RoundTells.unfit a m) = unfit-told book g _ a m
+round-told-only {book} {g} (RoundTells.short a f h) = past-fit book g _ a f ∙ rw (lt-leb _ _ h)
+round-told-only {book} {g} (RoundTells.tooMany a f h m) = past-fit book g _ a f ∙ rw (le-leb _ _ h, too-many book g, lt-ltb _ _ m)
+round-told-only {book} {g} (RoundTells.nothing a f h m) = past-fit book g _ a f ∙ rw (le-leb _ _ h, too-many book g, le-ltb _ _ m)
 
-module _ (s : List ℕ) (g : Game) (buffer : List ℤ) where
-  told : {v : Verdict} → RoundTells s g buffer v → RoundTells s g buffer (roundVerdict s g buffer)
+module _ (book : List ℕ) (g : Game) (buffer : List ℤ) where
+  told : {v : Verdict} → RoundTells book g buffer v → RoundTells book g buffer (roundVerdict book g buffer)
   told t = rw (round-told-only t) t
 
-  by-numbers : Accepted s → Fits s g → spaceFor s ≤ length buffer → RoundTells s g buffer (roundVerdict s g buffer)
-  by-numbers a f h = elim (decLt mostNumbers (numbersGiven (round s g .played .told))) [
+  by-numbers : Accepted book → Fits book g → spaceFor book ≤ length buffer → RoundTells book g buffer (roundVerdict book g buffer)
+  by-numbers a f h = elim (decLt mostNumbers (numbersGiven (round book g .played .told))) [
     | yes m ↦ told (RoundTells.tooMany a f h m)
     | no m ↦ told (RoundTells.nothing a f h (omega arith))
   ]
 
-  pub round-tells : RoundTells s g buffer (roundVerdict s g buffer)
+  pub round-tells : RoundTells book g buffer (roundVerdict book g buffer)
   round-tells =
-      by-fit s g (λ k p t. told (RoundTells.book t)) (λ a m. told (RoundTells.unfit a m)) (λ a f.
-      elim (decLt (length buffer) (spaceFor s)) [
+      by-fit book g (λ k p t. told (RoundTells.book t)) (λ a m. told (RoundTells.unfit a m)) (λ a f.
+      elim (decLt (length buffer) (spaceFor book)) [
         | yes h ↦ told (RoundTells.short a f h)
         | no h ↦ by-numbers a f (omega arith)
       ]
       )
 
   -- "After a refusal game and mark buffer are as lent"
-  pub turned-down : (roundVerdict s g buffer .number ≡ 0 → ⊥) → answer s g buffer ≡ turnedDown (roundVerdict s g buffer) g buffer
+  pub turned-down : (roundVerdict book g buffer .number ≡ 0 → ⊥) → answer book g buffer ≡ turnedDown (roundVerdict book g buffer) g buffer
   unfolding answer
   turned-down h = rw (ne-eqb _ 0 h)
 
   -- "An accepted round gives the game, the passes, the count of marks, and the marks"
-  pub played-out : roundVerdict s g buffer .number ≡ 0 → answer s g buffer ≡ playedOut (roundVerdict s g buffer) (round s g) buffer
+  pub played-out :
+      roundVerdict book g buffer .number ≡ 0 → answer book g buffer ≡ playedOut (roundVerdict book g buffer) (round book g) buffer
   unfolding answer
   played-out h = rw (eq-eqb _ 0 h)
 
   -- either way the answer tells the verdict
-  pub answer-verdict : answer s g buffer .verdict ≡ roundVerdict s g buffer
-  answer-verdict = elim (ℕ-discrete (roundVerdict s g buffer .number) 0) [
+  pub answer-verdict : answer book g buffer .verdict ≡ roundVerdict book g buffer
+  answer-verdict = elim (ℕ-discrete (roundVerdict book g buffer .number) 0) [
     | yes h ↦ ap (λ (a : Answer). a .verdict) (played-out h)
     | no h ↦ ap (λ (a : Answer). a .verdict) (turned-down h)
   ]
 
 -- what an accepted round is accepted for
 abbrev pub Playable : List ℕ → Game → List ℤ → Type 0
-Playable s g buffer = Accepted s × Fits s g × (spaceFor s ≤ length buffer) × (round s g .played .state .tooMany ≡ false)
+Playable book g buffer = Accepted book × Fits book g × (spaceFor book ≤ length buffer) × (round book g .played .state .tooMany ≡ false)
 
-pub told-playable : {s : List ℕ} {g : Game} {buffer : List ℤ} {v : Verdict} → RoundTells s g buffer v → v .number ≡ 0 → Playable s g buffer
+pub told-playable :
+    {book : List ℕ} {g : Game} {buffer : List ℤ} {v : Verdict} → RoundTells book g buffer v → v .number ≡ 0 → Playable book g buffer
 told-playable (RoundTells.book t) e = absurd (omega arith)
 told-playable (RoundTells.unfit a m) e = absurd (omega arith)
 told-playable (RoundTells.short a f h) e = absurd (omega arith)
 told-playable (RoundTells.tooMany a f h m) e = absurd (omega arith)
-told-playable {s} {g} (RoundTells.nothing a f h m) e = (a, f, h, too-many s g ∙ le-ltb _ _ m)
+told-playable {book} {g} (RoundTells.nothing a f h m) e = (a, f, h, too-many book g ∙ le-ltb _ _ m)

@@ -3,11 +3,10 @@
 -- By the tests that the step makes, as variables: past or not, and the round being closed or not.
 use Prim.Native.Nat.{ℕ, _+_, _-_, _<_}
 use mathlib.Core.Path.{_≡_, refl, sym}
-use mathlib.Core.Bool.{Bool, true, false, _&&_, _||_, not}
+use mathlib.Core.Bool.{Bool, true, false, _&&_, _||_, not, true≢false}
 use mathlib.Core.List.{List, [], _∷_}
-use native.Mathlib.Decide.{decLt}
 use native.Mathlib.Omega.{arith}
-use borrow.Author.Tests.{eq-eqb}
+use borrow.Author.Tests.{eq-eqb, ne-eqb}
 use lib.Dec.{eqb}
 use Rattle.numbers.specs.Choice.{if_then_else_}
 use Rattle.kinds.specs.declared.Step.{Step}
@@ -23,6 +22,7 @@ use Rattle.round.specs.declared.Act.the-variants.{Goes, Halts}
 use Rattle.round.specs.State.{State, Thing, signal, end, Happening, missing, past, isThere}
 use Rattle.round.specs.Ticks.{telling, begunAt, countAt, waitsFor, tickOf, tickAt}
 use Rattle.round.specs.Rounds.{stageAfter}
+use Rattle.round.proofs.Tries.{some-left}
 
 -- what a timed step at position x comes to, with the count k
 pub record TimedTick (x : Position) (k : ℕ) (act : Act) : Type 0 where
@@ -45,9 +45,6 @@ same-stage : {a b : Ending} {y z : Position} → Halts a y ≡ Halts b z → sta
 same-stage {a} {b} h = let e : a ≡ b = cc in rw e
 
 module _ (x : Position) (k : ℕ) where
-  some-left : (k ≡ 0 → false ≡ true) → k ≡ 0 → ⊥
-  some-left none e = let clash = none e in let z : _≡_ {A = ℕ} 0 1 = cc in omega arith
-
   -- what the three come to: past, at rest with one less, or to be continued
   abbrev shape : Bool → Bool → Ending → Act
   shape isPast closing how =
@@ -65,15 +62,15 @@ module _ (x : Position) (k : ℕ) where
       }
   timed-shape false true how none stage =
       record {
-        noneLeft = λ z. absurd (some-left none z);
+        noneLeft = λ z. absurd (true≢false (sym (none z)));
         goesOn = λ p e h. goes-not-halts (sym h);
-        rests = λ other y h rest. (elim (decLt 0 k) [ yes l ↦ l | no l ↦ absurd (some-left none (omega arith)) ], cc);
+        rests = λ other y h rest. (some-left k (ne-eqb k 0 (λ z. true≢false (sym (none z)))), cc);
         stays = λ y h. absurd (omega (arith, same-stage h));
         neverEnds = λ y h. absurd (omega (arith, same-stage h));
       }
   timed-shape false false how none stage =
       record {
-        noneLeft = λ z. absurd (some-left none z);
+        noneLeft = λ z. absurd (true≢false (sym (none z)));
         goesOn = λ p e h. goes-not-halts (sym h);
         rests = λ other y h rest. absurd (omega (arith, same-stage h));
         stays = λ y h. cc;

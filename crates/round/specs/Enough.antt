@@ -1,5 +1,4 @@
--- That the steps which a turn may take, and the passes which a round may take, are enough: a hypothesis of what is shown of rounds in
--- crates/rules, until the theory of rounds shows it for every accepted book and every game that fits.
+-- That the steps which a turn may take, and the passes which a round may take, are never what stops them.
 use Prim.Native.Nat.{ℕ, zero, suc, _<_}
 use mathlib.Core.Path.{_≡_}
 use mathlib.Core.Bool.{true, false}
@@ -9,14 +8,13 @@ use Rattle.kinds.specs.declared.Counts.{Counts}
 use Rattle.book.specs.Layout.{routinesOf}
 use Rattle.book.specs.Book.{countsOf, routineSteps}
 use Rattle.game.specs.declared.Game.{Game}
-use Rattle.game.specs.Lines.{entriesOf}
 use Rattle.round.specs.declared.Position.{Position}
 use Rattle.round.specs.declared.Act.{Act}
 use Rattle.round.specs.declared.Act.the-variants.{Goes, Halts}
 use Rattle.round.specs.State.{State}
 use Rattle.round.specs.Actions.{atStart}
 use Rattle.round.specs.Ticks.{tick, fresh, effectOn}
-use Rattle.round.specs.Rounds.{mostTicks, allDone, again, mostPasses, pass}
+use Rattle.round.specs.Rounds.{mostTicks, allDone, again, mostPasses, listedIn, pass}
 
 -- what is asked of the position and the state behind a step, if the turn goes on
 abbrev pub IfItGoesOn : Act → State → (Position → State → Type 0) → Type 0
@@ -41,4 +39,4 @@ module _ (book : List ℕ) where
     pub turns :
         (r : ℕ) → r < routinesOf book → (x : Position) (s : State) →
         InTime (mostTicks (routineSteps book r)) (countsOf book) r (routineSteps book r) x s
-    pub passes : RoundEnds mostPasses (entriesOf (atStart g .game .listed)) (atStart g)
+    pub passes : RoundEnds mostPasses (listedIn g) (atStart g)

@@ -6,6 +6,10 @@ pub mod Ticks
 pub mod Rounds
 pub mod Answers
 pub mod Tells
+pub mod Demand
+pub mod Completed
+pub mod Whole
+pub mod Again
 pub mod SetPlays
 pub mod Examples
 pub mod Enough

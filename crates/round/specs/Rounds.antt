@@ -108,8 +108,9 @@ pub record Round : Type 0 where
   pub played : Played
   pub passes : ℕ
 
--- the passes that a round may take: one for each signal step and each routine of a largest book, since behind a pass in which no signal is
--- given and no routine ends there is at most one more; that they are enough is Enough.antt's claim
+-- the passes that a round may take: a pass that gives a signal or ends a routine uses up a signal step or a routine, of which a largest
+-- book has mostSteps and mostRoutines, and behind a pass that does neither there is at most one more; that they are enough is
+-- Enough.antt's claim
 abbrev pub mostPasses : ℕ
 mostPasses = 2 + mostSteps + mostRoutines
 

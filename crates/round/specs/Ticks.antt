@@ -67,7 +67,8 @@ module _ (r : ℕ) (steps : List ℕ) (x : Position) (s : State) where
   abbrev pub restsFor : ℕ → Act
   restsFor k = if eqb k 0 then onward Nothing else Halts Rested (begunAt (x .place) (k - 1))
 
-  -- rules 25 to 29, with the count k
+  -- rules 25 to 29, with the count k; with none left and the thing not there the turn goes on all the same, and the try is told neither as
+  -- missing, since it goes further, nor as past, since it found nothing
   unfoldable pub waitsFor : Thing → ℕ → Tick
   waitsFor t k =
       if eqb k 0 && not (isThere s t)

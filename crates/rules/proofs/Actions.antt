@@ -1,20 +1,21 @@
 -- The eight actions as defined, on routines and their lists: what each comes to in the paper's flags and statuses.
--- A field that an action does not speak of is kept through it, and the tests on routines are those on their statuses.
+-- The tests on routines are those on their statuses, and a change that gives a stage gives its status.
 use Prim.Native.Nat.{ℕ}
 use mathlib.Core.Path.{_≡_, refl, sym, _∙_, ap, fun-ext}
 use mathlib.Core.Bool.{Bool, true, false, _&&_, _||_, not, true≢false, or-comm}
 use mathlib.Core.List.{List, [], _∷_, map, map-map, zipWith}
 use lib.ListN.{getD, set, List·getD-map}
-use lib.Seq.{getD-set-other, map-set-same}
+use lib.Seq.{getD-set-other}
 use Rattle.numbers.specs.Choice.{if_then_else_}
 use Rattle.game.specs.declared.Routine.{Routine}
 use Rattle.game.specs.Game.{blank}
 use Rattle.game.proofs.Below.{by-test}
 use Rattle.round.specs.Actions.{kept, each, inStage1, inStage4, getsStopped, staysListed, withoutOrders}
+use Rattle.round.proofs.Maps.{map-set, same-at}
+use Rattle.round.proofs.Actions.{each-keeps, started, stopping, order, after, field-same}
 use Rattle.rules.specs.Instructions.{CONT}
 use Rattle.rules.specs.Schedulers.{Stage, notStarted, is, stopped, has, isTerminated}
 use Rattle.rules.specs.Instants.{only, allAt, isUnderWay, noFlags}
-use Rattle.rules.proofs.Maps.{map-set, same-at}
 use Rattle.rules.proofs.Stages.{seen, terminated-stage, under-way-stage}
 
 zip-maps :
@@ -22,16 +23,6 @@ zip-maps :
 unfolding zipWith
 zip-maps h f g [] = refl
 zip-maps h f g (x ∷ l) = ap (λ (m : List Bool). h (f x) (g x) ∷ m) (zip-maps h f g l)
-
--- what a change of one routine keeps, the same change of several keeps
-each-keeps :
-    {B : Type 0} (f : Routine → B) (change : Routine → Routine) → ((x : Routine) → f (change x) ≡ f x) →
-    (rs : List ℕ) (xs : List Routine) → map f (each change rs xs) ≡ map f xs
-unfolding each
-each-keeps f change e [] xs = refl
-each-keeps f change e (r ∷ rs) xs =
-    let x = getD xs r blank in
-    each-keeps f change e rs (set xs r (change x)) ∙ map-set-same f xs r (change x) blank (e x)
 
 -- a change that gives one status gives it to each of them
 each-at :
@@ -75,20 +66,8 @@ untouched test k t h (r ∷ rs) l =
     untouched test k t h rs (set l r k) ∙ getD-set-other l r t k notStarted (λ c. true≢false (sym e ∙ ap test (sym c) ∙ h)))
     (λ e. untouched test k t h rs l)
 
--- actions 1, 3 and 6 as defined, then as the paper has them; rs are those listed once action 1 is done
+-- actions 1, 3 and 6 as the paper has them, and that those as defined are the same; rs are those listed once action 1 is done
 module _ (xs : List Routine) (starts : List ℕ) where
-  abbrev pub started : List Routine
-  started = each inStage1 starts xs
-
-  abbrev stopping : List ℕ → List ℕ
-  stopping rs = kept (λ r. getsStopped (getD started r blank)) rs
-
-  abbrev pub order : List ℕ → List ℕ
-  order rs = kept (λ r. staysListed (getD started r blank)) rs
-
-  abbrev after : List ℕ → List Routine
-  after rs = map withoutOrders (each inStage1 (order rs) (each inStage4 (stopping rs) started))
-
   abbrev toStop : List Bool
   toStop = map (λ x. x .stopping) xs
 
@@ -107,21 +86,21 @@ module _ (xs : List Routine) (starts : List ℕ) where
   abbrev pub actual₆ : List ℕ → List ℕ
   actual₆ rs = only (stays rs) (only (λ t. not (has toStop t)) rs)
 
-  started-status : map seen started ≡ status₁
+  started-status : map seen (started xs starts) ≡ status₁
   started-status = each-at (is CONT) inStage1 (λ x. refl) starts xs
 
-  started-at : (t : ℕ) → seen (getD started t blank) ≡ getD status₁ t notStarted
-  started-at t = sym (List·getD-map seen started t blank) ∙ ap (λ l. getD l t notStarted) started-status
+  started-at : (t : ℕ) → seen (getD (started xs starts) t blank) ≡ getD status₁ t notStarted
+  started-at t = sym (List·getD-map seen (started xs starts) t blank) ∙ ap (λ l. getD l t notStarted) started-status
 
-  started-stop : (t : ℕ) → getD started t blank .stopping ≡ has toStop t
+  started-stop : (t : ℕ) → getD (started xs starts) t blank .stopping ≡ has toStop t
   started-stop t =
       let same = each-keeps (λ x. x .stopping) inStage1 (λ x. refl) starts xs in
-      same-at (λ x. x .stopping) started xs blank same t ∙ sym (List·getD-map (λ x. x .stopping) xs t blank)
+      same-at (λ x. x .stopping) (started xs starts) xs blank same t ∙ sym (List·getD-map (λ x. x .stopping) xs t blank)
 
-  stopping-same : (rs : List ℕ) → stopping rs ≡ only stops rs
+  stopping-same : (rs : List ℕ) → stopping xs starts rs ≡ only stops rs
   stopping-same =
-      kept-only (λ r. getsStopped (getD started r blank)) stops (λ t.
-      let way = sym (under-way-stage (getD started t blank .stage)) ∙ ap isUnderWay (started-at t) in
+      kept-only (λ r. getsStopped (getD (started xs starts) r blank)) stops (λ t.
+      let way = sym (under-way-stage (getD (started xs starts) t blank .stage)) ∙ ap isUnderWay (started-at t) in
       λ i. started-stop t i && way i)
 
   -- action 3 leaves the status of one that is not to stop
@@ -131,53 +110,39 @@ module _ (xs : List Routine) (starts : List ℕ) where
   not-stopped rs t true e = refl
   not-stopped rs t false e = ap (λ k. not (isTerminated k)) (sym (untouched stops stopped t (rw e) rs status₁))
 
-  pub order-same : (rs : List ℕ) → order rs ≡ actual₆ rs
+  pub order-same : (rs : List ℕ) → order xs starts rs ≡ actual₆ rs
   order-same rs =
-      let agree : (t : ℕ) → staysListed (getD started t blank) ≡ (not (has toStop t) && stays rs t) =
+      let agree : (t : ℕ) → staysListed (getD (started xs starts) t blank) ≡ (not (has toStop t) && stays rs t) =
       λ t.
-      let end = sym (terminated-stage (getD started t blank .stage)) ∙ ap isTerminated (started-at t) in
+      let end = sym (terminated-stage (getD (started xs starts) t blank .stage)) ∙ ap isTerminated (started-at t) in
       (λ i. not (started-stop t i) && not (end i)) ∙ not-stopped rs t (has toStop t) refl
       in
-      kept-only (λ r. staysListed (getD started r blank)) (λ t. not (has toStop t) && stays rs t) agree rs ∙
+      kept-only (λ r. staysListed (getD (started xs starts) r blank)) (λ t. not (has toStop t) && stays rs t) agree rs ∙
       sym (only-twice (stays rs) (λ t. not (has toStop t)) rs)
 
-  pub status-same : (rs : List ℕ) → map seen (after rs) ≡ allAt (is CONT) (actual₆ rs) (status₃ rs)
+  pub status-same : (rs : List ℕ) → map seen (after xs starts rs) ≡ allAt (is CONT) (actual₆ rs) (status₃ rs)
   status-same rs =
-      let halted = each inStage4 (stopping rs) started in
-      map-map seen withoutOrders (each inStage1 (order rs) halted) ∙
-      each-at (is CONT) inStage1 (λ x. refl) (order rs) halted ∙
-      ap (allAt (is CONT) (order rs)) (each-at stopped inStage4 (λ x. refl) (stopping rs) started) ∙
+      let halted = each inStage4 (stopping xs starts rs) (started xs starts) in
+      map-map seen withoutOrders (each inStage1 (order xs starts rs) halted) ∙
+      each-at (is CONT) inStage1 (λ x. refl) (order xs starts rs) halted ∙
+      ap (allAt (is CONT) (order xs starts rs)) (each-at stopped inStage4 (λ x. refl) (stopping xs starts rs) (started xs starts)) ∙
       (λ i. allAt (is CONT) (order-same rs i) (allAt stopped (stopping-same rs i) (started-status i)))
-
-  -- what depends on no stage changes by actions 4, 5 and 8 alone
-  pub field-same :
-      {B : Type 0} (f : Routine → B) (rs : List ℕ) →
-      ((x : Routine) → f (withoutOrders (inStage1 x)) ≡ f (withoutOrders x)) →
-      ((x : Routine) → f (withoutOrders (inStage4 x)) ≡ f (withoutOrders x)) →
-      map f (after rs) ≡ map (λ x. f (withoutOrders x)) xs
-  field-same {B} f rs one four =
-      let halted = each inStage4 (stopping rs) started in
-      let h : Routine → B = λ x. f (withoutOrders x) in
-      map-map f withoutOrders (each inStage1 (order rs) halted) ∙
-      each-keeps h inStage1 one (order rs) halted ∙
-      each-keeps h inStage4 four (stopping rs) started ∙
-      each-keeps h inStage1 one starts xs
 
   -- a flag of one of the three sets
   pub flag-cleared :
       (flag : Routine → Bool) → ((x : Routine) → flag (withoutOrders x) ≡ false) → (rs : List ℕ) →
-      noFlags (map flag xs) ≡ map flag (after rs)
+      noFlags (map flag xs) ≡ map flag (after xs starts rs)
   flag-cleared flag clear rs =
-      let same = field-same flag rs (λ x. clear (inStage1 x) ∙ sym (clear x)) (λ x. clear (inStage4 x) ∙ sym (clear x)) in
+      let same = field-same xs starts flag rs (λ x. clear (inStage1 x) ∙ sym (clear x)) (λ x. clear (inStage4 x) ∙ sym (clear x)) in
       map-map (λ b. false) flag xs ∙ ap (λ h. map h xs) (fun-ext (λ x. sym (clear x))) ∙ sym same
 
   pub suspended-same :
       (rs : List ℕ) →
       zipWith _||_ (zipWith (λ s r. s && not r) (map (λ x. x .suspended) xs) (map (λ x. x .resuming) xs)) (map (λ x. x .suspending) xs) ≡
-      map (λ x. x .suspended) (after rs)
+      map (λ x. x .suspended) (after xs starts rs)
   suspended-same rs =
       ap (λ l. zipWith _||_ l (map (λ x. x .suspending) xs))
       (zip-maps (λ s r. s && not r) (λ x. x .suspended) (λ x. x .resuming) xs) ∙
       zip-maps _||_ (λ x. x .suspended && not (x .resuming)) (λ x. x .suspending) xs ∙
       ap (λ h. map h xs) (fun-ext (λ x. or-comm (x .suspended && not (x .resuming)) (x .suspending))) ∙
-      sym (field-same (λ x. x .suspended) rs (λ x. refl) (λ x. refl))
+      sym (field-same xs starts (λ x. x .suspended) rs (λ x. refl) (λ x. refl))

@@ -1,5 +1,5 @@
 -- The game, the marks and the passes of an accepted round are those that the rules give, and no others. That the answer is accepted says
--- that the game fits and that no number was too many; the rest is what is shown of the round that it has played.
+-- that the game fits; the rest is what is shown of the round that it has played.
 use Prim.Native.Nat.{ℕ, _<_}
 use mathlib.Core.Path.{_≡_, refl, sym, ap, _∙_, subst}
 use mathlib.Core.List.{List, []}
@@ -18,7 +18,6 @@ use Rattle.round.specs.State.{State}
 use Rattle.round.specs.Actions.{positionOf}
 use Rattle.round.specs.Rounds.{round}
 use Rattle.round.specs.Answers.{marksIn, answer}
-use Rattle.round.specs.Enough.{Enough}
 use Rattle.round.proofs.Telling.{round-tells, answer-verdict, played-out, told-playable}
 use Rattle.rules.specs.Instructions.{Instruction, nothing}
 use Rattle.rules.specs.Residual.{residual, _⇝_, same}
@@ -27,14 +26,14 @@ use Rattle.rules.proofs.Rounds.{round-counts, round-given}
 
 module _ (book : List ℕ) (a : Accepted book) where
   pub answer-by-the-rules :
-      (run : ℕ → Instruction) (s : State) (buffer : List ℤ) → Sized (s .game) → Enough book (s .game) → Stands book a run (s .game) →
+      (run : ℕ → Instruction) (s : State) (buffer : List ℤ) → Sized (s .game) → Stands book a run (s .game) →
       answer book (s .game) buffer .verdict ≡ accepted →
       ByTheRules book a run s buffer (answer book (s .game) buffer)
-  answer-by-the-rules run s buffer z enough stand e =
+  answer-by-the-rules run s buffer z stand e =
       let g = s .game in
       let h = ap (λ (v : Verdict). v .number) (sym (answer-verdict book g buffer) ∙ e) in
       let (b, fits, space, few) = told-playable (round-tells book g buffer) h in
-      let (run′, given, stands) = round-given book a run s [] z fits enough stand few in
+      let (run′, given, stands) = round-given book a run s [] z fits stand in
       rw (played-out book g buffer h) (
       record {
         last = round book g .played .state;
@@ -62,8 +61,7 @@ module _ (book : List ℕ) (a : Accepted book) where
 
   -- so whatever game a round is accepted for, the rules give its answer
   pub round-by-the-rules :
-      (s : State) (buffer : List ℤ) → Sized (s .game) → Enough book (s .game) →
-      answer book (s .game) buffer .verdict ≡ accepted →
+      (s : State) (buffer : List ℤ) → Sized (s .game) → answer book (s .game) buffer .verdict ≡ accepted →
       ByTheRules book a (threadsOf book a (s .game)) s buffer (answer book (s .game) buffer)
-  round-by-the-rules s buffer z enough e =
-      answer-by-the-rules (threadsOf book a (s .game)) s buffer z enough (threads-stand (s .game)) e
+  round-by-the-rules s buffer z e =
+      answer-by-the-rules (threadsOf book a (s .game)) s buffer z (threads-stand (s .game)) e

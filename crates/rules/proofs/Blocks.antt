@@ -3,7 +3,7 @@
 use Prim.Native.Nat.{ℕ, zero, suc, _≤_, _<_}
 use mathlib.Core.Path.{_≡_, refl, sym, ap, subst, _∙_}
 use mathlib.Core.Bool.{Bool, true, false}
-use mathlib.Core.List.{List}
+use mathlib.Core.List.{List, []}
 use mathlib.Core.Logic.{_⊎_, inl, inr}
 use native.Mathlib.Decide.{decLt}
 use native.Mathlib.Numerals.{add-one}
@@ -27,11 +27,10 @@ use Rattle.game.specs.Game.{counterAt}
 use Rattle.round.specs.declared.Ending.{Ending}
 use Rattle.round.specs.declared.Position.{Position}
 use Rattle.round.specs.declared.Effect.the-variants.{Nothing}
-use Rattle.round.specs.declared.Act.{Act}
 use Rattle.round.specs.declared.Act.the-variants.{Goes}
 use Rattle.round.specs.State.{State}
 use Rattle.round.specs.Jumps.{sizeOf, pastPartner, fromEnd}
-use Rattle.round.specs.Ticks.{fresh, tick, tickOf, tickAt}
+use Rattle.round.specs.Ticks.{Tick, telling, fresh, tick, tickOf, tickAt}
 use Rattle.round.proofs.Forms.{if-there, while-there, else-there, end-there}
 use Rattle.round.proofs.Jumps.{past-partner, from-if, from-else, from-while}
 use Rattle.rules.specs.Instructions.{TERM, Instruction, nothing, _then_, while, whileInst}
@@ -39,7 +38,7 @@ use Rattle.rules.specs.Instructions as paper
 use Rattle.rules.specs.Rules.{IsTrue, rule2, rule3, rule4, rule5, rule6, rule7, rule8, rule9, rule10}
 use Rattle.rules.specs.Residual.{instructionOf, testOf, ofBlock, leftOfBlock, leftOfStep, same, drop, first, body}
 use Rattle.rules.specs.View.{view}
-use Rattle.rules.proofs.Walks.{Marks, actAt, Ends}
+use Rattle.rules.proofs.Walks.{Marks, Ends}
 use Rattle.rules.proofs.Leaves.{ByRule, leaf-at}
 use Rattle.rules.proofs.Places.{block-start, more-first, more-behind, only-at, only-in, loop-at, loop-in}
 use Rattle.rules.proofs.Places.{both-at, both-first, both-second}
@@ -52,25 +51,25 @@ module _ (counts : Counts) (r : ℕ) (steps : List ℕ) (few : counts .routines 
   abbrev at : ℕ → View
   at = viewAt counts steps (sizeOf steps)
 
-  abbrev act : Position → State → Act
-  act = actAt counts r steps
-
-  act-at : {k : Kind} {p : ℕ} (x : Position) (s : State) → x .place ≡ p → stepOf p ≡ step.Kind k → act x s ≡ tickOf r steps x s k .act
+  tick-at :
+      {k : Kind} {p : ℕ} (x : Position) (s : State) → x .place ≡ p → stepOf p ≡ step.Kind k → tick counts r steps x s ≡ tickOf r steps x s k
   unfolding tick
-  act-at x s l e = ap (λ (a : Step). tickAt r steps x s a .act) (ap stepOf l ∙ e)
+  tick-at x s l e = ap (λ (a : Step). tickAt r steps x s a) (ap stepOf l ∙ e)
+
+  -- the step at x leads to q, and changes and tells nothing
+  abbrev JustLeads : Position → State → ℕ → Type 0
+  JustLeads x s q = tick counts r steps x s ≡ telling (Goes q Nothing) []
 
   -- an else and an end lead on
-  else-act :
-      (x : Position) (s : State) {p q : ℕ} →
-      x .place ≡ p → at p ≡ stands ElseMarker → pastPartner steps p ≡ q → act x s ≡ Goes q Nothing
+  else-leads :
+      (x : Position) (s : State) {p q : ℕ} → x .place ≡ p → at p ≡ stands ElseMarker → pastPartner steps p ≡ q → JustLeads x s q
   unfolding tickOf
-  else-act x s {p} l k e = act-at x s l (else-there counts steps p k) ∙ rw (l, e)
+  else-leads x s {p} l k e = tick-at x s l (else-there counts steps p k) ∙ rw (l, e)
 
-  end-act :
-      (x : Position) (s : State) {p q : ℕ} →
-      x .place ≡ p → at p ≡ stands EndMarker → fromEnd steps p ≡ q → act x s ≡ Goes q Nothing
+  end-leads :
+      (x : Position) (s : State) {p q : ℕ} → x .place ≡ p → at p ≡ stands EndMarker → fromEnd steps p ≡ q → JustLeads x s q
   unfolding tickOf
-  end-act x s {p} l k e = act-at x s l (end-there counts steps p k) ∙ rw (l, e)
+  end-leads x s {p} l k e = tick-at x s l (end-there counts steps p k) ∙ rw (l, e)
 
   -- the outcome of the turn is fixed
   module _ (h : Ending) (y : Position) (u : State) (us : Marks) where
@@ -136,7 +135,7 @@ module _ (counts : Counts) (r : ℕ) (steps : List ℕ) (few : counts .routines 
     leaf-claim p o n x s ms l m t =
         let (k, e, by) = leaf-at counts r steps few p o in
         let here : x .place ≡ p = omega arith in
-        rw e (leaf-ends k here (subst (λ (a : Act). ByRule counts r steps k x s ms a) (sym (act-at x s here e)) (by x s ms)) t)
+        rw e (leaf-ends k here (subst (λ (a : Tick). ByRule counts r steps k x s ms a) (sym (tick-at x s here e)) (by x s ms)) t)
 
     -- The test of the opening at p is made, and the turn is in the block behind it, or past its partner.
     data Tested (p n : ℕ) (s : State) (ms : Marks) : Type 0 where
@@ -158,10 +157,10 @@ module _ (counts : Counts) (r : ℕ) (steps : List ℕ) (few : counts .routines 
     unfolding tickOf
     tested p (inl o) {x = x} {s = s} l t =
         let (c, relation, k, e) = if-there counts steps p o in
-        test-by c relation k _ (ap testOf e) refl (onward t (act-at x s l e ∙ rw (l, add-one)))
+        test-by c relation k _ (ap testOf e) refl (onward t (tick-at x s l e ∙ rw (l, add-one)))
     tested p (inr o) {x = x} {s = s} l t =
         let (c, relation, k, e) = while-there counts steps p o in
-        test-by c relation k _ (ap testOf e) refl (onward t (act-at x s l e ∙ rw (l, add-one)))
+        test-by c relation k _ (ap testOf e) refl (onward t (tick-at x s l e ∙ rw (l, add-one)))
 
     -- the test of a step that holds one block: i goes into the block, or is over
     one-tested :
@@ -179,7 +178,7 @@ module _ (counts : Counts) (r : ℕ) (steps : List ℕ) (few : counts .routines 
     leaves-block :
         {d p q : ℕ} (b : ParsedBlock at d p q) (left : Position → Instruction) {f e n : ℕ} {i : Instruction} {s : State} {ms : Marks} →
         ((z : Position) → p ≤ z .place → z .place ≤ q → left z ≡ leftOfBlock r stepOf b z) → f ≤ p → q < e →
-        ((x : Position) (v : State) → x .place ≡ q → act x v ≡ Goes e Nothing) → BlockEnds b i n s ms → StepEnds i left f e n s ms
+        ((x : Position) (v : State) → x .place ≡ q → JustLeads x v e) → BlockEnds b i n s ms → StepEnds i left f e n s ms
     leaves-block b left g lf le jump (within run on w l m) = stops run on (rw (g y l m) w) (omega arith) (omega arith)
     leaves-block b left g lf le jump (passes k x v vs run l m t) =
         let next = onward t (jump x v m) in
@@ -193,7 +192,7 @@ module _ (counts : Counts) (r : ℕ) (steps : List ℕ) (few : counts .routines 
             BlockEnds b i n s ms → StepEnds i (leftOfStep r stepOf (ifOnly o b k)) p (suc q) n s ms
         in-block =
             leaves-block b (leftOfStep r stepOf (ifOnly o b k)) (λ z l m. only-in r stepOf o b k z l) (omega arith) (omega arith)
-            (λ x v l. end-act x v l k (from-if counts steps o b))
+            (λ x v l. end-leads x v l k (from-if counts steps o b))
 
         only-claim : StepClaim (ifOnly o b k)
         only-claim n x s ms l m t = elim (decLt p (x .place)) [
@@ -214,14 +213,14 @@ module _ (counts : Counts) (r : ℕ) (steps : List ℕ) (few : counts .routines 
             BlockEnds b i n s ms → StepEnds i (leftOfStep r stepOf (ifElse o b k c j)) p (suc e) n s ms
         in-first =
             leaves-block b (leftOfStep r stepOf (ifElse o b k c j)) (both-first r stepOf o b k c j) (omega arith)
-            (omega (arith, block-goes at 0 c)) (λ x v l. else-act x v l k (past-partner counts steps c (inr j)))
+            (omega (arith, block-goes at 0 c)) (λ x v l. else-leads x v l k (past-partner counts steps c (inr j)))
 
         in-second :
             {n : ℕ} {i : Instruction} {s : State} {ms : Marks} →
             BlockEnds c i n s ms → StepEnds i (leftOfStep r stepOf (ifElse o b k c j)) p (suc e) n s ms
         in-second =
             leaves-block c (leftOfStep r stepOf (ifElse o b k c j)) (λ z l m. both-second r stepOf o b k c j z l)
-            (omega (arith, block-goes at 0 b)) (omega arith) (λ x v l. end-act x v l j (from-else counts steps o b k c))
+            (omega (arith, block-goes at 0 b)) (omega arith) (λ x v l. end-leads x v l j (from-else counts steps o b k c))
 
         both-tested :
             {n : ℕ} {s : State} {ms : Marks} →
@@ -258,7 +257,7 @@ module _ (counts : Counts) (r : ℕ) (steps : List ℕ) (few : counts .routines 
         in-body again (within run on w l m) =
             stops (rule8 run on) on (rw (loop-in r stepOf o b k y l) (body w)) (omega arith) (omega arith)
         in-body again (passes n x v vs run l m t) =
-            let next = onward t (end-act x v m k (from-while counts steps o b)) in
+            let next = onward t (end-leads x v m k (from-while counts steps o b)) in
             step-as (λ α i w ws rest. rule7 run rest) (omega (arith, next .1)) (again (next .0) v vs (omega (arith, next .1)) (next .2))
 
         loop-tested :

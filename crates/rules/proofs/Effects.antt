@@ -24,14 +24,15 @@ use Rattle.game.proofs.Room.{room}
 use Rattle.round.specs.declared.Effect.the-variants.{Nothing, Mark, Put, Add, Give, GiveNumber, Start, Stop, Suspend, Resume}
 use Rattle.round.specs.State.{State, withGame}
 use Rattle.round.specs.Ticks.{effectOn, mostNumbers}
+use Rattle.round.proofs.Maps.{map-set}
+use Rattle.round.proofs.Entries.{pushed-entries}
 use Rattle.rules.specs.Instructions.{signal, mark}
 use Rattle.rules.specs.Schedulers.{Stage, Scheduler, isAmong, statusOf, isNotStarted, moved, withEvent, withValue, put, called}
 use Rattle.rules.specs.Schedulers.{withOrders, withThreads, withStart, withStop, withSuspend, withResume}
 use Rattle.rules.specs.View.{view}
-use Rattle.rules.proofs.Walks.{Marks, Sound}
-use Rattle.rules.proofs.Maps.{map-set}
+use Rattle.rules.proofs.Walks.{Marks, Fine}
 use Rattle.rules.proofs.Stages.{seen, not-started-view}
-use Rattle.rules.proofs.Lines.{pushed-entries, entries-among}
+use Rattle.rules.proofs.Lines.{entries-among}
 
 -- a scheduler with other orders, but for those to broadcast
 abbrev ordered : Scheduler → List ℕ → List Bool → List Bool → List Bool → Scheduler
@@ -147,20 +148,20 @@ joins-view s ms t true e = ap (λ l. starting l (view s ms)) (e refl)
 joins-view s ms t false e = refl
 
 pub start-view :
-    {routines : ℕ} (s : State) (ms : Marks) (t : ℕ) → Sound routines s → t < routines → routines ≤ mostRoutines →
+    {routines : ℕ} (s : State) (ms : Marks) (t : ℕ) → Fine routines s → t < routines → routines ≤ mostRoutines →
     view (effectOn (Start t) s) ms ≡ withStart t (view s ms)
 unfolding effectOn game.withStart
-start-view s ms t sound below few =
+start-view s ms t fine below few =
     let l = s .game .starting in
-    let right = sound .starting in
+    let right = fine .starting in
     let unstarted = eqb (routineAt (s .game) t .stage) notStarted in
     let new = unstarted && not (isIn l t) in
     let same : (isNotStarted (statusOf (view s ms) t) && not (isAmong t (view s ms .orders .toStart))) ≡ new =
-    unfold view in rw (not-started-view s ms t, entries-among l right (sound .items) t)
+    unfold view in rw (not-started-view s ms t, entries-among l right (fine .items) t)
     in
     rw same (
     joins-view s ms t new (λ e.
     let absent = not-true (isIn l t) (and-both unstarted (not (isIn l t)) e .1) in
     let apart : In l t → ⊥ = λ v. false≢true (sym absent ∙ is-in l (right .short) t .1 v) in
-    pushed-entries l t (sound .items) (omega (arith, room l t right below apart, few)))
+    pushed-entries l t (fine .items) (omega (arith, room l t right below apart, few)))
     )

@@ -31,16 +31,18 @@ use Rattle.round.specs.declared.Effect.the-variants.{Nothing, Put, Add, Give, G
 use Rattle.round.specs.declared.Act.{Act}
 use Rattle.round.specs.declared.Act.the-variants.{Goes, Halts}
 use Rattle.round.specs.State.{State, Thing, signal, end, number, numberAt, isThere}
-use Rattle.round.specs.Ticks.{Tick, fresh, begunAt, countAt, onward, tries, restsFor, waitsFor, reads, tickOf, effectOn}
+use Rattle.round.specs.Ticks.{Tick, telling, fresh, begunAt, countAt, onward, tries, restsFor, waitsFor, reads, tickOf, effectOn}
 use Rattle.round.specs.Jumps.{sizeOf}
-use Rattle.round.proofs.Forms.{leaf-there, start-below}
+use Rattle.round.specs.Answers.{marksIn}
+use Rattle.round.proofs.Forms.{leaf-there}
+use Rattle.round.proofs.Fields.{FieldsRight, fields-right}
 use Rattle.rules.specs.Instructions.{TERM, nothing}
 use Rattle.rules.specs.Schedulers.{Scheduler, returned}
 use Rattle.rules.specs.Rules.{⟨_&_⟩⟶[_]⟨_&_⟩, rule1, rule11, rule12, rule13, rule19, rule20, rule21, rule22, rule23, rule24, rule25}
 use Rattle.rules.specs.Rules.{rule28, rule30, rule31, rule32}
 use Rattle.rules.specs.Residual.{instruction}
 use Rattle.rules.specs.View.{view}
-use Rattle.rules.proofs.Walks.{Marks, Fine, marksOf, statusAfter}
+use Rattle.rules.proofs.Walks.{Marks, Fine, statusAfter}
 use Rattle.rules.proofs.Effects.{nothing-view, mark-view, count-view, add-view, give-view, give-number-view, start-view, stop-view}
 use Rattle.rules.proofs.Effects.{suspend-view, resume-view}
 use Rattle.rules.proofs.Tries.{coop-term, cont-term, values-numbers, number-given, number-missing, Idle, Tried, tried-wait}
@@ -71,39 +73,45 @@ pub data Halted (r : ℕ) (k : Kind) (x : Position) (s : State) (ms : Marks) (h 
       Halted r k x s ms h y
 
 module _ (counts : Counts) (r : ℕ) (steps : List ℕ) where
-  abbrev pub ByRule : Kind → Position → State → Marks → Act → Type 0
-  ByRule k x s ms (Goes q e) =
+  -- what a step comes to, with these marks, is what the rule of its kind says
+  abbrev ActByRule : Kind → Position → State → Marks → Act → Marks → Type 0
+  ActByRule k x s ms (Goes q e) new =
       (q ≡ suc (x .place))
       × (Fine (counts .routines) s → Fine (counts .routines) (effectOn e s) →
-      ⟨ instruction r x k & view s ms ⟩⟶[ TERM ]⟨ nothing & view (effectOn e s) (ms ++ marksOf r e) ⟩)
-  ByRule k x s ms (Halts h y) = Halted r k x s ms h y
+      ⟨ instruction r x k & view s ms ⟩⟶[ TERM ]⟨ nothing & view (effectOn e s) (ms ++ new) ⟩)
+  ActByRule k x s ms (Halts h y) new = Halted r k x s ms h y
+
+  abbrev pub ByRule : Kind → Position → State → Marks → Tick → Type 0
+  ByRule k x s ms t = ActByRule k x s ms (t .act) (marksIn (t .told))
 
   module _ (k : Kind) (x : Position) (s : State) (ms : Marks) where
-    -- the turn goes on behind an effect that leaves no mark
+    -- the turn goes on behind an effect, with no mark
     changes :
-        (e : Effect) → marksOf r e ≡ [] → {σ : Scheduler} →
+        (e : Effect) {σ : Scheduler} →
         (Fine (counts .routines) s → Fine (counts .routines) (effectOn e s) → view (effectOn e s) ms ≡ σ) →
         ⟨ instruction r x k & view s ms ⟩⟶[ TERM ]⟨ nothing & σ ⟩ →
-        ByRule k x s ms (onward r steps x s e)
-    changes e none same h = (add-one (x .place), λ f g. rw (none, append-nil, same f g) h)
+        ActByRule k x s ms (onward r steps x s e) []
+    changes e same h = (add-one (x .place), λ f g. rw (append-nil, same f g) h)
 
-    passes : Idle s ms (instruction r x k) TERM nothing → ByRule k x s ms (onward r steps x s Nothing)
-    passes h = changes Nothing refl (λ f g. nothing-view s ms) h
+    passes : Idle s ms (instruction r x k) TERM nothing → ActByRule k x s ms (onward r steps x s Nothing) []
+    passes h = changes Nothing (λ f g. nothing-view s ms) h
 
     -- a try, by what its thing's test says
     attempts :
-        (t : Thing) (e : Effect) (y : Position) → (isThere s t ≡ true → ByRule k x s ms (onward r steps x s e)) →
+        (t : Thing) (e : Effect) (y : Position) →
+        (isThere s t ≡ true → ActByRule k x s ms (onward r steps x s e) []) →
         (isThere s t ≡ false → s .eoi ≡ true → Halted r k x s ms Missed y) →
         (isThere s t ≡ false → s .eoi ≡ false → Halted r k x s ms Continued x) →
-        ByRule k x s ms (tries r steps x s t e y .act)
+        ByRule k x s ms (tries r steps x s t e y)
+    unfolding marksIn
     attempts t e y found rests again =
-        by-test (λ (a : Tick). ByRule k x s ms (a .act)) (isThere s t) found (λ none.
-        by-test (ByRule k x s ms) (s .eoi) (rests none) (again none))
+        by-test (ByRule k x s ms) (isThere s t) found (λ none.
+        by-test (λ (a : Act). ActByRule k x s ms a []) (s .eoi) (rests none) (again none))
 
     -- a try of a step that stays at position y
     waiting :
         (t : Thing) (y : Position) → Tried s ms (isThere s t) (instruction r x k) (instruction r y k) → y .place ≡ x .place →
-        ByRule k x s ms (tries r steps x s t Nothing y .act)
+        ByRule k x s ms (tries r steps x s t Nothing y)
     waiting t y w e =
         attempts t Nothing y
         (λ h. passes (w .found h)) (λ h o. stays (w .rests h o) coop-term e) (λ h o. stays (w .again h o) cont-term refl)
@@ -112,10 +120,10 @@ module _ (counts : Counts) (r : ℕ) (steps : List ℕ) where
     waiting-for :
         (t : Thing) (count : ℕ) → (count ≤ 0 → Idle s ms (instruction r x k) TERM nothing) →
         (0 < count → Tried s ms (isThere s t) (instruction r x k) (instruction r (begunAt (x .place) (count - 1)) k)) →
-        ByRule k x s ms (waitsFor r steps x s t count .act)
-    unfolding waitsFor
+        ByRule k x s ms (waitsFor r steps x s t count)
+    unfolding waitsFor marksIn
     waiting-for t count over w =
-        by-test (λ (a : Tick). ByRule k x s ms (a .act)) (eqb count 0 && not (isThere s t))
+        by-test (ByRule k x s ms) (eqb count 0 && not (isThere s t))
         (λ h. passes (over (omega (arith, eqb-true count 0 (and-both (eqb count 0) (not (isThere s t)) h .0)))))
         (λ h.
         let goes-on : isThere s t ≡ false → 0 < count = λ e. omega (arith, eqb-false count 0 (not-over (eqb count 0) (isThere s t) h e)) in
@@ -125,9 +133,10 @@ module _ (counts : Counts) (r : ℕ) (steps : List ℕ) where
         (λ e o. stays (w (goes-on e) .again e o) cont-term refl))
 
   module _ (x : Position) (s : State) (ms : Marks) where
-    rests-for : (n : ℕ) → ByRule (kind.RestFor n) x s ms (restsFor r steps x s (countAt x n))
+    rests-for : (n : ℕ) → ByRule (kind.RestFor n) x s ms (telling (restsFor r steps x s (countAt x n)) [])
+    unfolding marksIn
     rests-for n =
-        by-test (ByRule (kind.RestFor n) x s ms) (eqb (countAt x n) 0)
+        by-test (λ (a : Act). ActByRule (kind.RestFor n) x s ms a []) (eqb (countAt x n) 0)
         (λ h. passes (kind.RestFor n) x s ms (rule23 (omega (arith, eqb-true (countAt x n) 0 h))))
         (λ h. stays (rule24 (omega (arith, eqb-false (countAt x n) 0 h))) coop-term refl)
 
@@ -136,30 +145,30 @@ module _ (counts : Counts) (r : ℕ) (steps : List ℕ) where
     unfolding view
     taken e c k = count-view s ms c (numberAt s e k) ∙ rw (values-numbers e (s .numbers))
 
-    reads-number : (e c k : ℕ) → ByRule (kind.Read e c k) x s ms (reads r steps x s e c k .act)
+    reads-number : (e c k : ℕ) → ByRule (kind.Read e c k) x s ms (reads r steps x s e c k)
     unfolding view
     reads-number e c k =
         attempts (kind.Read e c k) x s ms (number e k) (Put c (numberAt s e k)) (fresh (x .place + 1))
-        (λ h. changes (kind.Read e c k) x s ms (Put c (numberAt s e k)) refl (λ f g. taken e c k) (rule30 (number-given s ms e k h)))
+        (λ h. changes (kind.Read e c k) x s ms (Put c (numberAt s e k)) (λ f g. taken e c k) (rule30 (number-given s ms e k h)))
         (λ h o. leaves (rule32 (number-missing s ms e k h) o) coop-term (ap fresh (add-one (x .place))))
         (λ h o. stays (rule31 (number-missing s ms e k h) o) cont-term refl)
 
   leaf-by-rule :
-      (k : Kind) → Leaf (formOf k) → ((t : ℕ) → k ≡ kind.Start t → t < counts .routines) → counts .routines ≤ mostRoutines →
-      (x : Position) (s : State) (ms : Marks) → ByRule k x s ms (tickOf r steps x s k .act)
-  unfolding tickOf view
+      (k : Kind) → Leaf (formOf k) → FieldsRight counts k → counts .routines ≤ mostRoutines →
+      (x : Position) (s : State) (ms : Marks) → ByRule k x s ms (tickOf r steps x s k)
+  unfolding tickOf view marksIn
   leaf-by-rule (kind.Mark n) l b few x s ms = (add-one (x .place), λ f g. rw mark-view rule1)
-  leaf-by-rule (kind.Set c n) l b few x s ms = changes (kind.Set c n) x s ms (Put c n) refl (λ f g. count-view s ms c n) rule1
+  leaf-by-rule (kind.Set c n) l b few x s ms = changes (kind.Set c n) x s ms (Put c n) (λ f g. count-view s ms c n) rule1
   leaf-by-rule (kind.Add c n) l b few x s ms =
       let sum = sumOf (counterAt (s .game) c) n in
-      changes (kind.Add c n) x s ms (Add c sum) refl (λ f g. add-view s ms c sum) rule1
+      changes (kind.Add c n) x s ms (Add c sum) (λ f g. add-view s ms c sum) rule1
   leaf-by-rule (kind.Take c d) l b few x s ms =
       let sum = sumOf (counterAt (s .game) c) (counterAt (s .game) d) in
-      changes (kind.Take c d) x s ms (Add c sum) refl (λ f g. add-view s ms c sum) rule1
-  leaf-by-rule (kind.Signal e) l b few x s ms = changes (kind.Signal e) x s ms (Give e) refl (λ f g. give-view s ms e) rule12
+      changes (kind.Take c d) x s ms (Add c sum) (λ f g. add-view s ms c sum) rule1
+  leaf-by-rule (kind.Signal e) l b few x s ms = changes (kind.Signal e) x s ms (Give e) (λ f g. give-view s ms e) rule12
   leaf-by-rule (kind.SignalNumber e c) l b few x s ms =
       let v = counterAt (s .game) c in
-      changes (kind.SignalNumber e c) x s ms (GiveNumber e v) refl (λ f g. give-number-view s ms e v (g .1)) rule13
+      changes (kind.SignalNumber e c) x s ms (GiveNumber e v) (λ f g. give-number-view s ms e v (g .few)) rule13
   leaf-by-rule kind.Rest l b few x s ms = leaves rule11 coop-term (ap fresh (add-one (x .place)))
   leaf-by-rule (kind.RestFor n) l b few x s ms = rests-for x s ms n
   leaf-by-rule (kind.Wait e) l b few x s ms = waiting (kind.Wait e) x s ms (signal e) (fresh (x .place)) (tried-wait s ms e) refl
@@ -170,11 +179,11 @@ module _ (counts : Counts) (r : ℕ) (steps : List ℕ) where
       waiting-for (kind.JoinFor t n) x s ms (end t) (countAt x n) (λ z. rule28 (inr z)) (tried-join-for s ms t (countAt x n))
   leaf-by-rule (kind.Read e c k) l b few x s ms = reads-number x s ms e c k
   leaf-by-rule (kind.Start t) l b few x s ms =
-      changes (kind.Start t) x s ms (Start t) refl (λ f g. start-view s ms t (f .0) (b t refl) few) rule19
-  leaf-by-rule (kind.Stop t) l b few x s ms = changes (kind.Stop t) x s ms (Stop t) refl (λ f g. stop-view s ms t) rule20
+      changes (kind.Start t) x s ms (Start t) (λ f g. start-view s ms t f b few) rule19
+  leaf-by-rule (kind.Stop t) l b few x s ms = changes (kind.Stop t) x s ms (Stop t) (λ f g. stop-view s ms t) rule20
   leaf-by-rule (kind.Suspend t) l b few x s ms =
-      changes (kind.Suspend t) x s ms (Suspend t) refl (λ f g. suspend-view s ms t) rule21
-  leaf-by-rule (kind.Resume t) l b few x s ms = changes (kind.Resume t) x s ms (Resume t) refl (λ f g. resume-view s ms t) rule22
+      changes (kind.Suspend t) x s ms (Suspend t) (λ f g. suspend-view s ms t) rule21
+  leaf-by-rule (kind.Resume t) l b few x s ms = changes (kind.Resume t) x s ms (Resume t) (λ f g. resume-view s ms t) rule22
   leaf-by-rule (kind.If c relation n) l b few x s ms = no-leaf l (λ e. cc) (λ e. cc)
   leaf-by-rule kind.Else l b few x s ms = no-leaf l (λ e. cc) (λ e. cc)
   leaf-by-rule (kind.While c relation n) l b few x s ms = no-leaf l (λ e. cc) (λ e. cc)
@@ -186,7 +195,7 @@ module _ (counts : Counts) (r : ℕ) (steps : List ℕ) where
       (p : ℕ) → (viewAt counts steps (sizeOf steps) p ≡ stands Plain) ⊎ (viewAt counts steps (sizeOf steps) p ≡ stands Pausing) →
       (k : Kind)
       × (stepAt counts steps p ≡ step.Kind k)
-      × ((x : Position) (s : State) (ms : Marks) → ByRule k x s ms (tickOf r steps x s k .act))
+      × ((x : Position) (s : State) (ms : Marks) → ByRule k x s ms (tickOf r steps x s k))
   leaf-at few p h =
       let (k, e, leaf) = leaf-there counts steps p h in
-      (k, e, leaf-by-rule k leaf (λ t g. start-below counts steps p (e ∙ ap step.Kind g)) few)
+      (k, e, leaf-by-rule k leaf (fields-right counts steps p k e) few)

@@ -1,5 +1,4 @@
 pub mod Walks
-pub mod Maps
 pub mod Stages
 pub mod Lines
 pub mod Effects
@@ -14,10 +13,8 @@ pub mod Turns
 pub mod Routines
 pub mod Actions
 pub mod Chaining
-pub mod Kept
 pub mod Told
 pub mod Seen
-pub mod Standing
 pub mod Passes
 pub mod Rounds
 pub mod Adequacy

@@ -1,8 +1,8 @@
 -- What a turn comes to as a step or a block on its way sees it: it stops in there, or it passes the end with a shorter turn left. If two
 -- instructions run alike, an outcome for the one is an outcome for the other, which is how an outcome is carried from a part to the whole.
 use Prim.Native.Nat.{ℕ, suc, _≤_, _<_}
-use mathlib.Core.Path.{_≡_, ap, subst, _∙_}
-use mathlib.Core.List.{List, _++_, append-nil}
+use mathlib.Core.Path.{_≡_, sym, ap, subst, _∙_}
+use mathlib.Core.List.{List, [], _++_, append-nil}
 use mathlib.Core.Logic.{_≢_}
 use native.Mathlib.Omega.{arith}
 use Rattle.kinds.specs.declared.Kind.{Kind}
@@ -10,15 +10,15 @@ use Rattle.kinds.specs.declared.Counts.{Counts}
 use Rattle.round.specs.declared.Ending.{Ending}
 use Rattle.round.specs.declared.Position.{Position}
 use Rattle.round.specs.declared.Effect.the-variants.{Nothing}
-use Rattle.round.specs.declared.Act.{Act}
 use Rattle.round.specs.declared.Act.the-variants.{Goes}
 use Rattle.round.specs.State.{State}
-use Rattle.round.specs.Ticks.{fresh, effectOn}
+use Rattle.round.specs.Ticks.{Tick, telling, tick, fresh, effectOn}
+use Rattle.round.specs.Answers.{marksIn}
 use Rattle.rules.specs.Instructions.{Status, TERM, Instruction, nothing}
 use Rattle.rules.specs.Rules.{⟨_&_⟩⟶[_]⟨_&_⟩}
 use Rattle.rules.specs.Residual.{instruction, _⇝_, same}
 use Rattle.rules.specs.View.{view}
-use Rattle.rules.proofs.Walks.{Marks, Fine, actAt, marksOf, Ends, halts, goes, statusAfter}
+use Rattle.rules.proofs.Walks.{Marks, Fine, Ends, halts, goes, statusAfter}
 use Rattle.rules.proofs.Leaves.{Halted, stays, leaves, ByRule}
 
 abbrev pub Run : Instruction → State → Marks → Status → Instruction → State → Marks → Type 0
@@ -63,14 +63,19 @@ module _ {counts : Counts} {r : ℕ} {steps : List ℕ} {h : Ending} {y : Positi
   -- a step that changes nothing, and leads to q
   pub onward :
       {n q : ℕ} {x : Position} {s : State} {ms : Marks} →
-      Ends counts r steps h y u us n x s ms → actAt counts r steps x s ≡ Goes q Nothing →
+      Ends counts r steps h y u us n x s ms → tick counts r steps x s ≡ telling (Goes q Nothing) [] →
       (m : ℕ) × (m < n) × Ends counts r steps h y u us m (fresh q) s ms
-  unfolding effectOn
-  onward (halts f e) g = let z : _≡_ {A = ℕ} 0 1 = cc in absurd (omega arith)
-  onward {q = q} {ms = ms} (goes {n = n} {q = p} {e = c} f e t) g =
+  unfolding effectOn marksIn
+  onward (halts f e) g =
+      let same = ap (λ (a : Tick). a .act) (sym e ∙ g) in
+      let z : _≡_ {A = ℕ} 0 1 = cc in
+      absurd (omega arith)
+  onward {q = q} {ms = ms} (goes {n = n} {q = p} {e = c} {told = told} f e t) g =
+      let same = ap (λ (a : Tick). a .act) (sym e ∙ g) in
+      let none : told ≡ [] = ap (λ (a : Tick). a .told) (sym e ∙ g) in
       let a : p ≡ q = cc in
       let b : c ≡ Nothing = cc in
-      (n, omega arith, rw (a, b, append-nil ms) at t)
+      (n, omega arith, rw (a, b, none, append-nil ms) at t)
 
   -- a step that holds no block, and goes by its rule
   leaf-halts :
@@ -82,12 +87,12 @@ module _ {counts : Counts} {r : ℕ} {steps : List ℕ} {h : Ending} {y : Positi
 
   pub leaf-ends :
       {p n : ℕ} (k : Kind) {x : Position} {s : State} {ms : Marks} →
-      x .place ≡ p → ByRule counts r steps k x s ms (actAt counts r steps x s) → Ends counts r steps h y u us n x s ms →
+      x .place ≡ p → ByRule counts r steps k x s ms (tick counts r steps x s) → Ends counts r steps h y u us n x s ms →
       OfStep counts r steps h y u us (instruction r x k) (λ z. instruction r z k) p (suc p) n s ms
-  leaf-ends k {x} l by (halts f e) = leaf-halts l (subst (λ (a : Act). ByRule counts r steps k x u us a) e by)
-  leaf-ends k {x} {s} {ms} l by (goes {n = n} {e = c} f e t) =
-      let rule = subst (λ (a : Act). ByRule counts r steps k x s ms a) e by in
-      over n (effectOn c s) (ms ++ marksOf r c) (rule .1 f (fine-now t)) (omega arith) (rw (rule .0, l) at t)
+  leaf-ends k {x} l by (halts f e) = leaf-halts l (subst (λ (a : Tick). ByRule counts r steps k x u us a) e by)
+  leaf-ends k {x} {s} {ms} l by (goes {n = n} {e = c} {told = told} f e t) =
+      let rule = subst (λ (a : Tick). ByRule counts r steps k x s ms a) e by in
+      over n (effectOn c s) (ms ++ marksIn told) (rule .1 f (fine-now t)) (omega arith) (rw (rule .0, l) at t)
 
   -- for another instruction that runs as i does, in a turn at least as long
   pub block-as :

@@ -1,21 +1,20 @@
 -- The turns of a routine of an accepted book, by the rules: the parse of its steps that the book's acceptance gives, over its part of the
 -- book, is one over its own steps, so what is shown of any parse holds of what is left of the routine.
-use Prim.Native.Nat.{ℕ, _/_, _<_, _≤_}
-use mathlib.Core.Path.{_≡_, refl, sym, _∙_, subst}
+use Prim.Native.Nat.{ℕ, _<_, _≤_}
+use mathlib.Core.Path.{_≡_, refl, sym, subst}
 use mathlib.Core.List.{List}
-use lib.ListN.{length}
 use Rattle.kinds.specs.declared.Step.{Step}
-use Rattle.kinds.specs.Steps.{stepBytes, stepAt}
+use Rattle.kinds.specs.Steps.{stepAt}
 use Rattle.blocks.specs.Blocks.{View, viewAt, deepest}
 use Rattle.blocks.specs.Parse.{ParsedBlock}
-use Rattle.book.specs.Layout.{routinesOf, stepCount}
+use Rattle.book.specs.Layout.{routinesOf}
 use Rattle.book.specs.Book.{countsOf, routineSteps, viewOf}
 use Rattle.book.specs.Accepted.{Accepted}
-use Rattle.book.proofs.Laws.{shown-routine, shown-steps, shown-places}
 use Rattle.round.specs.declared.Ending.{Ending}
 use Rattle.round.specs.declared.Position.{Position}
 use Rattle.round.specs.State.{State}
 use Rattle.round.specs.Jumps.{sizeOf}
+use Rattle.round.proofs.Parsed.{size-same, places-same}
 use Rattle.rules.specs.Instructions.{Instruction}
 use Rattle.rules.specs.Rules.{⟨_&_⟩⟶[_]⟨_&_⟩}
 use Rattle.rules.specs.Residual.{leftOfBlock, residual, _⇝_}
@@ -30,22 +29,14 @@ module _ (book : List ℕ) (a : Accepted book) (r : ℕ) (h : r < routinesOf boo
   abbrev stepOf : ℕ → Step
   stepOf = stepAt (countsOf book) steps
 
-  pub size-same : sizeOf steps ≡ stepCount book r
-  size-same = subst (λ (part : List ℕ). length part / stepBytes ≡ stepCount book r) (shown-routine book a r h) (shown-steps book a r h)
-
-  places-same : viewOf book r ≡ viewAt (countsOf book) steps (sizeOf steps)
-  places-same =
-      sym (shown-places book a r h)
-      ∙ (λ i. viewAt (countsOf book) (shown-routine book a r h i) (sym size-same i))
-
   -- a parse of the same places that leaves the same everywhere
   abbrev Alike : (ℕ → View) → ℕ → Type 0
   Alike at e = (b : ParsedBlock at deepest 0 e) × ((x : Position) → residual book a r h x ≡ leftOfBlock r stepOf b x)
 
   parse : Alike (viewAt (countsOf book) steps (sizeOf steps)) (sizeOf steps)
   parse =
-      subst (λ (at : ℕ → View). Alike at (sizeOf steps)) places-same (
-      subst (λ (e : ℕ). Alike (viewOf book r) e) (sym size-same) (a .nesting r h, λ x. refl)
+      subst (λ (at : ℕ → View). Alike at (sizeOf steps)) (places-same book a r h) (
+      subst (λ (e : ℕ). Alike (viewOf book r) e) (sym (size-same book a r h)) (a .nesting r h, λ x. refl)
       )
 
   pub routine-by-rules :
@@ -54,10 +45,9 @@ module _ (book : List ℕ) (a : Accepted book) (r : ℕ) (h : r < routinesOf boo
       (i′ : Instruction)
       × ⟨ i & view s ms ⟩⟶[ statusAfter how ]⟨ i′ & view u us ⟩
       × (i′ ⇝ residual book a r h y)
-      × (y .place ≤ sizeOf steps)
   routine-by-rules {y = y} n x s ms i l w t =
       let (b, alike) = parse in
-      let (i′, run, left, m) =
+      let (i′, run, left) =
       steps-by-rules (countsOf book) r steps (a .laid .counts .fewRoutines) b n x s ms i l
       (subst (λ (j : Instruction). i ⇝ j) (alike x) w) t in
-      (i′, run, subst (λ (j : Instruction). i′ ⇝ j) (sym (alike y)) left, m)
+      (i′, run, subst (λ (j : Instruction). i′ ⇝ j) (sym (alike y)) left)

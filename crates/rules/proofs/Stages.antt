@@ -2,10 +2,10 @@
 -- the paper asks of the status. By the stages one by one, and by an entry of a map.
 use Prim.Native.Nat.{ℕ, zero, suc}
 use mathlib.Core.Path.{_≡_, refl, ap, _∙_}
-use mathlib.Core.Bool.{true, false, _||_, true≢false}
+use mathlib.Core.Bool.{false, _||_, true≢false}
 use mathlib.Core.Logic.{_≢_}
 use native.Mathlib.Omega.{arith}
-use borrow.Author.Tests.{eqb-true, ne-eqb}
+use borrow.Author.Tests.{ne-eqb}
 use lib.Dec.{eqb}
 use lib.ListN.{List·getD-map}
 use Rattle.game.specs.declared.Routine.{Routine}
@@ -42,8 +42,8 @@ pub under-way-stage : (k : ℕ) → isUnderWay (stageOf k) ≡ (eqb k continuing
 under-way-stage =
     by-stage (λ k. isUnderWay (stageOf k) ≡ (eqb k continuing || eqb k rested)) refl refl refl refl (λ k a b c d. rw (a, b, c, d))
 
-pub stage-continues : (k : ℕ) → eqb k continuing ≡ true → stageOf k ≡ is CONT
-stage-continues k e = rw (eqb-true k continuing e)
+pub stage-continues : (k : ℕ) → k ≡ continuing → stageOf k ≡ is CONT
+stage-continues k e = rw e
 
 pub stage-pauses : (k : ℕ) → eqb k continuing ≡ false → stageOf k ≢ is CONT
 stage-pauses =

@@ -1,7 +1,7 @@
 -- A turn of a routine is one run of its instruction by the paper's rules: what is left of the routine where the turn begins goes, with the
 -- turn's status, to what is left where it ends. The routine is one block, and a turn that passes its end ends it.
 use Prim.Native.Nat.{ℕ, _≤_}
-use mathlib.Core.Path.{_≡_, ap}
+use mathlib.Core.Path.{_≡_, sym, ap, _∙_}
 use mathlib.Core.List.{List}
 use native.Mathlib.Omega.{arith}
 use Rattle.kinds.specs.declared.Step.{Step}
@@ -16,14 +16,14 @@ use Rattle.round.specs.declared.Position.{Position}
 use Rattle.round.specs.declared.Act.the-variants.{Halts}
 use Rattle.round.specs.State.{State}
 use Rattle.round.specs.Jumps.{sizeOf}
-use Rattle.round.specs.Ticks.{fresh, tick, tickAt}
+use Rattle.round.specs.Ticks.{Tick, fresh, tick, tickAt}
 use Rattle.round.proofs.Forms.{none-there}
 use Rattle.rules.specs.Instructions.{TERM, Instruction, nothing}
 use Rattle.rules.specs.Schedulers.{Scheduler}
 use Rattle.rules.specs.Rules.{⟨_&_⟩⟶[_]⟨_&_⟩}
 use Rattle.rules.specs.Residual.{leftOfBlock, _⇝_, same}
 use Rattle.rules.specs.View.{view}
-use Rattle.rules.proofs.Walks.{Marks, actAt, Ends, halts, goes, statusAfter}
+use Rattle.rules.proofs.Walks.{Marks, Ends, halts, goes, statusAfter}
 use Rattle.rules.proofs.Nothings.{transitive, follows}
 use Rattle.rules.proofs.Places.{block-end}
 use Rattle.rules.proofs.Outcomes.{OfBlock, within, passes}
@@ -38,7 +38,7 @@ module _ (counts : Counts) (r : ℕ) (steps : List ℕ) where
 
   module _ (few : counts .routines ≤ mostRoutines) where
     -- behind the last step the routine ends
-    quits : (x : Position) (s : State) → x .place ≡ sizeOf steps → actAt counts r steps x s ≡ Halts Ended (fresh (sizeOf steps))
+    quits : (x : Position) (s : State) → x .place ≡ sizeOf steps → tick counts r steps x s .act ≡ Halts Ended (fresh (sizeOf steps))
     unfolding tick
     quits x s l = ap (λ (a : Step). tickAt r steps x s a .act) (none-there counts steps (x .place) (omega arith))
 
@@ -49,25 +49,24 @@ module _ (counts : Counts) (r : ℕ) (steps : List ℕ) where
           (i′ : Instruction)
           × ⟨ i & σ ⟩⟶[ statusAfter h ]⟨ i′ & view u us ⟩
           × (i′ ⇝ leftOfBlock r stepOf b y)
-          × (y .place ≤ sizeOf steps)
 
       past-last :
           {m : ℕ} {i : Instruction} {σ : Scheduler} {x : Position} {v : State} {vs : Marks} →
           x .place ≡ sizeOf steps → ⟨ i & σ ⟩⟶[ TERM ]⟨ nothing & view v vs ⟩ → Ends counts r steps h y u us m x v vs → ByRules i σ
       past-last {x = x} l run (halts f e) =
-          let q = quits x u l in
+          let q = sym (ap (λ (a : Tick). a .act) e) ∙ quits x u l in
           let how : h ≡ Ended = cc in
           let there : y ≡ fresh (sizeOf steps) = cc in
           let p : y .place ≡ sizeOf steps = ap (λ (z : Position). z .place) there in
-          (nothing, rw how run, rw (block-end r stepOf b y p) same, omega arith)
+          (nothing, rw how run, rw (block-end r stepOf b y p) same)
       past-last {x = x} {v = v} l run (goes f e t) =
-          let q = quits x v l in
+          let q = sym (ap (λ (a : Tick). a .act) e) ∙ quits x v l in
           let z : _≡_ {A = ℕ} 0 1 = cc in
           absurd (omega arith)
 
       whole : {n : ℕ} {i : Instruction} {s : State} {ms : Marks} →
           OfBlock counts r steps h y u us i (leftOfBlock r stepOf b) 0 (sizeOf steps) n s ms → ByRules i (view s ms)
-      whole (within run on w l m) = (_, run, w, m)
+      whole (within run on w l m) = (_, run, w)
       whole (passes m x v vs run l e t) = past-last e run t
 
     pub steps-by-rules :
@@ -77,8 +76,7 @@ module _ (counts : Counts) (r : ℕ) (steps : List ℕ) where
         (i′ : Instruction)
         × ⟨ i & view s ms ⟩⟶[ statusAfter h ]⟨ i′ & view u us ⟩
         × (i′ ⇝ leftOfBlock r stepOf b y)
-        × (y .place ≤ sizeOf steps)
     steps-by-rules {h} {y} {u} {us} b n x s ms i l w t =
-        let (j, run, there, m) = whole h y u us b (block-claim counts r steps few h y u us b n x s ms (omega arith) l t) in
+        let (j, run, there) = whole h y u us b (block-claim counts r steps few h y u us b n x s ms (omega arith) l t) in
         let (k, alike, left) = follows w run in
-        (k, alike, transitive left there, m)
+        (k, alike, transitive left there)

@@ -38,9 +38,9 @@ module _ (book : List ℕ) (a : Accepted book) where
   threadsOf g r = dite (decLt r (routinesOf book)) (λ h. residual book a r h (positionOf (routineAt g r))) (λ n. nothing)
 
   -- The answer of an accepted round is what the rules give. The threads and the scheduler at its start are those of the game in state s,
-  -- whatever signals, numbers and flags an earlier round left there ("Signals and numbers of a round are not kept in the game."); at its end
-  -- they are those of the answer's game, with the marks that the answer counts and the buffer holds, and as many execution steps as the
-  -- answer has passes.
+  -- whatever signals, numbers and flags an earlier round left there ("Signals and numbers of a round are not kept in the game."); at its
+  -- end they are those of the answer's game, with the marks that the answer counts and the buffer holds, and as many execution steps as
+  -- the answer has passes.
   pub record ByTheRules (run : ℕ → Instruction) (s : State) (buffer : List ℤ) (answer : Answer) : Type 0 where
     pub last : State
     pub marks : List (ℕ × ℤ)

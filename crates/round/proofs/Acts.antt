@@ -1,0 +1,123 @@
+-- The 21 kinds sorted by what a step comes to: it goes on, with an effect and what it tells of it, or it halts the turn, for one of four
+-- reasons. All laws of turns speak of these.
+use Prim.Native.Nat.{ℕ, _+_, _<_, _≤_}
+use mathlib.Core.Path.{_≡_}
+use mathlib.Core.Bool.{Bool, true, false, _||_}
+use mathlib.Core.List.{List, [], _∷_}
+use lib.Dec.{eqb}
+use lib.ListN.{length}
+use lib.IntN.{ℤ}
+use lib.Signed.{_≤ℤ_}
+use Rattle.numbers.specs.declared.Sum.{Sum}
+use Rattle.numbers.specs.Numbers.{lowestCounter, highestCounter}
+use Rattle.kinds.specs.declared.Kind.the-variants as kind
+use Rattle.kinds.specs.declared.Step.{Step}
+use Rattle.kinds.specs.declared.Step.the-variants as step
+use Rattle.kinds.specs.declared.Counts.{Counts}
+use Rattle.kinds.specs.Steps.{opAt, stepAt}
+use Rattle.kinds.specs.Timed.{Timed}
+use Rattle.game.specs.Game.{counterAt}
+use Rattle.round.specs.declared.Ending.{Ending}
+use Rattle.round.specs.declared.Ending.the-variants.{Ended, Rested, Missed, Continued}
+use Rattle.round.specs.declared.Position.{Position}
+use Rattle.round.specs.declared.Effect.{Effect}
+use Rattle.round.specs.declared.Effect.the-variants.{Nothing, Mark, Put, Add, Give, GiveNumber, Start, Stop, Suspend, Resume}
+use Rattle.round.specs.declared.Act.{Act}
+use Rattle.round.specs.declared.Act.the-variants.{Goes, Halts}
+use Rattle.round.specs.State.{State, Thing, signal, end, number, Happening, gave, ended, missing, past, marked, numbersOf, isThere}
+use Rattle.round.specs.Jumps.{sizeOf}
+use Rattle.round.specs.Ticks.{Tick, countAt}
+use Rattle.round.specs.Answers.{opMark}
+use Rattle.round.specs.Demand.{isSignalOp}
+use Rattle.round.proofs.Leads.{Leaves}
+
+-- "A counter .. holds −1,000,000 to 1,000,000."
+abbrev pub InRange : ℤ → Type 0
+InRange v = (lowestCounter ≤ℤ v) × (v ≤ℤ highestCounter)
+
+-- P holds of each number given
+abbrev pub EachNumber : (ℤ → Type 0) → List (ℕ × ℤ) → Type 0
+EachNumber P [] = Unit {0}
+EachNumber P (x ∷ xs) = P (x .1) × EachNumber P xs
+
+-- every counter and every number given is in range
+pub record Ranged (s : State) : Type 0 where
+  pub counters : (c : ℕ) → InRange (counterAt (s .game) c)
+  pub numbers : EachNumber InRange (s .numbers)
+
+-- an effect on what the book has, which keeps counters and numbers in range
+pub data Right (counts : Counts) (s : State) : Effect → Type 0 where
+  nothing : Right counts s Nothing
+  mark : {n : ℤ} → Right counts s (Mark n)
+  put : {c : ℕ} {v : ℤ} → c < counts .counters → (Ranged s → InRange v) → Right counts s (Put c v)
+  add : {c : ℕ} {v : Sum} → c < counts .counters → InRange (v .sum) → Right counts s (Add c v)
+  give : {e : ℕ} → e < counts .signals → Right counts s (Give e)
+  giveNumber : {e : ℕ} {v : ℤ} → e < counts .signals → (Ranged s → InRange v) → Right counts s (GiveNumber e v)
+  start : {t : ℕ} → t < counts .routines → Right counts s (Start t)
+  stop : {t : ℕ} → t < counts .routines → Right counts s (Stop t)
+  suspend : {t : ℕ} → t < counts .routines → Right counts s (Suspend t)
+  resume : {t : ℕ} → t < counts .routines → Right counts s (Resume t)
+
+-- an effect that gives a signal
+abbrev pub isGiving : Effect → Bool
+isGiving Nothing = false
+isGiving (Mark n) = false
+isGiving (Put c v) = false
+isGiving (Add c v) = false
+isGiving (Give e) = true
+isGiving (GiveNumber e v) = true
+isGiving (Start t) = false
+isGiving (Stop t) = false
+isGiving (Suspend t) = false
+isGiving (Resume t) = false
+
+-- the op of a step that tells of a signal or a mark
+abbrev pub isTelling : ℕ → Bool
+isTelling op = isSignalOp op || eqb op opMark
+
+-- the thing that a step asks for; a timed step asks for it while some of its count is left
+pub data Asks (x : Position) : Step → Thing → Type 0 where
+  wait : {e : ℕ} → Asks x (step.Kind (kind.Wait e)) (signal e)
+  waitFor : {e n : ℕ} → 0 < countAt x n → Asks x (step.Kind (kind.WaitFor e n)) (signal e)
+  join : {t : ℕ} → Asks x (step.Kind (kind.Join t)) (end t)
+  joinFor : {t n : ℕ} → 0 < countAt x n → Asks x (step.Kind (kind.JoinFor t n)) (end t)
+  read : {e c k : ℕ} → Asks x (step.Kind (kind.Read e c k)) (number e k)
+
+module _ (counts : Counts) (steps : List ℕ) where
+  -- what fitting asks of a routine's position
+  pub record Stands (x : Position) : Type 0 where
+    pub inside : x .place ≤ sizeOf steps
+    pub whereBegun : x .begun ≡ true → (n : ℕ) × Timed (stepAt counts steps (x .place)) n × (x .left < n)
+    pub elsewhere : x .begun ≡ false → x .left ≡ 0
+
+-- routine r stands at position x
+module _ (counts : Counts) (r : ℕ) (steps : List ℕ) (x : Position) (s : State) where
+  -- what a step that goes on tells of its effect
+  pub data Says : Effect → List Happening → Type 0 where
+    silent : {e : Effect} → isGiving e ≡ false → isTelling (opAt steps (x .place)) ≡ false → Says e []
+    marks : {n : ℤ} → opAt steps (x .place) ≡ opMark → Says (Mark n) (marked r n ∷ [])
+    gives : {e : ℕ} → isSignalOp (opAt steps (x .place)) ≡ true → Says (Give e) (gave e 0 ∷ [])
+    givesNumber :
+        {e : ℕ} {v : ℤ} → isSignalOp (opAt steps (x .place)) ≡ true →
+        Says (GiveNumber e v) (gave e (length (numbersOf s e) + 1) ∷ [])
+    finds :
+        {e : Effect} {t : Thing} → isGiving e ≡ false → isTelling (opAt steps (x .place)) ≡ false → isThere s t ≡ true →
+        Says e (past r (x .place) t ∷ [])
+
+  -- why a step halts the turn, and what it tells
+  pub data Stops : Ending → Position → List Happening → Type 0 where
+    ends : {y : Position} → Stops Ended y (ended r ∷ [])
+    rests : {y : Position} → Stops Rested y []
+    misses :
+        {y : Position} {t : Thing} → Asks x (stepAt counts steps (x .place)) t → isThere s t ≡ false → s .eoi ≡ true →
+        Stops Missed y (missing r (x .place) t ∷ [])
+    continues :
+        {t : Thing} → Asks x (stepAt counts steps (x .place)) t → isThere s t ≡ false → s .eoi ≡ false →
+        Stops Continued x (missing r (x .place) t ∷ [])
+
+  abbrev pub Sorted : Act → List Happening → Type 0
+  Sorted (Goes q e) told = Leaves counts steps x q × Right counts s e × Says e told
+  Sorted (Halts how y) told = (Stands counts steps x → Stands counts steps y) × Stops how y told
+
+  abbrev pub SortedTick : Tick → Type 0
+  SortedTick t = Sorted (t .act) (t .told)

@@ -1,0 +1,116 @@
+-- A turn is passed over or taken, and the state behind one that is taken: where its routine stands, whether it goes on in the same round,
+-- and what is missing there still. The turn's steps leave its routine in its seat, and the turn's end writes that routine alone.
+use Prim.Native.Nat.{ℕ, _<_}
+use mathlib.Core.Path.{_≡_, refl, sym, ap, _∙_}
+use mathlib.Core.Bool.{Bool, true, false, _||_, not, true≢false, Bool·not-not}
+use mathlib.Core.List.{List, [], _∷_}
+use native.Mathlib.Decide.{decLt}
+use native.Mathlib.Omega.{arith}
+use borrow.Author.Tests.{eqb-true}
+use lib.Dec.{eqb}
+use lib.ListN.{length, List·getD-eq-default}
+use lib.Seq.{getD-set-same}
+use Rattle.game.specs.declared.Routine.{Routine}
+use Rattle.game.specs.Game.{continuing, ended, blank, routineAt, withRoutine}
+use Rattle.game.proofs.Below.{by-test}
+use Rattle.round.specs.declared.Ending.{Ending}
+use Rattle.round.specs.declared.Ending.the-variants.{Ended, Rested, Missed, Continued}
+use Rattle.round.specs.declared.Position.{Position}
+use Rattle.round.specs.State.{State, withGame, Thing, signal, end, number, isThere}
+use Rattle.round.specs.Actions.{positionOf, placed}
+use Rattle.round.specs.Rounds.{Ticks, stageAfter, withEnd, afterTurn, passedOver, took, Played, isDone, ticksOf, turn}
+use Rattle.round.proofs.Maps.{same-set}
+use Rattle.round.proofs.Effects.{same-end}
+use Rattle.round.proofs.Seats.{SameSeat}
+use Rattle.round.proofs.TurnLaws.{isGoing}
+
+-- a routine that takes a turn is not suspended, and in stage 1
+pub going-parts :
+    (suspended : Bool) (stage : ℕ) → not (suspended || not (eqb stage continuing)) ≡ true → (suspended ≡ false) × (stage ≡ continuing)
+going-parts true stage h = absurd (true≢false (sym h))
+going-parts false stage h = (refl, eqb-true stage continuing (sym (Bool·not-not _) ∙ h))
+
+-- the stage in which a turn that is to be continued leaves its routine is the one in which it takes turns
+going-after : (how : Ending) → not (not (eqb (stageAfter how) continuing)) ≡ not (isDone (took how))
+going-after Ended = refl
+going-after Rested = refl
+going-after Missed = refl
+going-after Continued = refl
+
+-- what a routine's end keeps holds behind a turn however it ends
+pub end-keeps : (P : State → Type 0) (how : Ending) (r : ℕ) (s : State) → (P s → P (withEnd Ended r s)) → P s → P (withEnd how r s)
+end-keeps P Ended r s over h = over h
+end-keeps P Rested r s over h = h
+end-keeps P Missed r s over h = h
+end-keeps P Continued r s over h = h
+
+-- a turn that is passed over in state s, and one of routine r that takes these steps
+abbrev passed : State → Played
+passed s = record { state = s; told = []; turns = passedOver ∷ [] }
+
+abbrev pub taken : ℕ → Ticks → Played
+taken r t = record { state = afterTurn r t; told = t .told; turns = took (t .ending) ∷ [] }
+
+-- rules 33 and 34
+module _ (book : List ℕ) (r : ℕ) (s : State) where
+  pub turn-by :
+      (P : Played → Type 0) → (isGoing s r ≡ false → P (passed s)) → (isGoing s r ≡ true → P (taken r (ticksOf book r s))) →
+      P (turn book r s)
+  unfolding turn
+  turn-by P over on =
+      let x = routineAt (s .game) r in
+      by-test P (x .suspended || not (eqb (x .stage) continuing)) (λ h. over (ap not h)) (λ h. on (ap not h))
+
+  pub turn-over : isGoing s r ≡ false → turn book r s ≡ passed s
+  turn-over h = turn-by (λ p. p ≡ passed s) (λ g. refl) (λ g. absurd (true≢false (sym g ∙ h)))
+
+  pub turn-taken : isGoing s r ≡ true → turn book r s ≡ taken r (ticksOf book r s)
+  turn-taken h = turn-by (λ p. p ≡ taken r (ticksOf book r s)) (λ g. absurd (true≢false (sym h ∙ g))) (λ g. refl)
+
+-- the same things are there where routine r stands elsewhere, and has ended if it had
+pub placed-there :
+    (s : State) (r stage : ℕ) (y : Position) → eqb stage ended ≡ eqb (routineAt (s .game) r .stage) ended → (t : Thing) →
+    isThere (withGame s (withRoutine (s .game) r (placed (routineAt (s .game) r) stage y))) t ≡ isThere s t
+unfolding isThere
+placed-there s r stage y same (signal e) = refl
+placed-there s r stage y same (end q) =
+    same-end s _ q (same-set (λ x. eqb (x .stage) ended) (s .game .routines) r _ blank same q) refl
+placed-there s r stage y same (number e k) = refl
+
+-- behind a turn of routine r with these steps, which keep its seat
+module _
+    (r : ℕ) (s : State) (t : Ticks) (seat : SameSeat (routineAt (t .state .game) r) (routineAt (s .game) r)) (going : isGoing s r ≡ true)
+  where
+    seat-going : (routineAt (t .state .game) r .suspended ≡ false) × (routineAt (t .state .game) r .stage ≡ continuing)
+    seat-going =
+        let (suspended, stage) = going-parts (routineAt (s .game) r .suspended) (routineAt (s .game) r .stage) going in
+        (seat .suspended ∙ suspended, seat .stage ∙ stage)
+
+    -- a routine in stage 1 is one of those that the game keeps: behind them all fields are 0
+    kept-there : r < length (t .state .game .routines)
+    kept-there = elim (decLt r (length (t .state .game .routines))) [
+      | yes l ↦ l
+      | no n ↦
+          let out : routineAt (t .state .game) r ≡ blank = List·getD-eq-default (t .state .game .routines) blank (omega arith) in
+          absurd (omega (arith, ap (λ (x : Routine). x .stage) out, seat-going .1))
+    ]
+
+    pub routine-after : routineAt (afterTurn r t .game) r ≡ placed (routineAt (t .state .game) r) (stageAfter (t .ending)) (t .position)
+    routine-after =
+        let x = placed (routineAt (t .state .game) r) (stageAfter (t .ending)) (t .position) in
+        end-keeps (λ u. routineAt (u .game) r ≡ x) (t .ending) r _ (λ h. h)
+        (getD-set-same (t .state .game .routines) r x blank kept-there)
+
+    -- the routine stands where its steps left it
+    pub position-after : positionOf (routineAt (afterTurn r t .game) r) ≡ t .position
+    position-after = ap positionOf routine-after
+
+    -- it takes another turn in the same round if this one is to be continued
+    pub after-going : isGoing (afterTurn r t) r ≡ not (isDone (took (t .ending)))
+    after-going = rw (routine-after, seat-going .0, going-after (t .ending))
+
+    -- what is missing behind the steps is missing behind a turn that is to be continued
+    pub after-missing : t .ending ≡ Continued → (thing : Thing) → isThere (t .state) thing ≡ false → isThere (afterTurn r t) thing ≡ false
+    after-missing e thing h =
+        let same = placed-there (t .state) r continuing (t .position) (ap (λ n. eqb n ended) (sym (seat-going .1))) thing in
+        rw e (same ∙ h)

@@ -1,0 +1,138 @@
+-- The steps of distinct routines of an accepted book that are in a set are at most those of the whole book: the routines' parts follow each
+-- other without gaps, so the counts of the first routines are the count of the book's first steps.
+use Prim.Native.Nat.{ℕ, zero, suc, _+_, _<_, _≤_}
+use mathlib.Core.Path.{_≡_, refl, sym, _∙_, ap}
+use mathlib.Core.Bool.{Bool}
+use mathlib.Core.List.{List, [], _∷_}
+use mathlib.Core.Logic.{_≢_, inl, inr}
+use native.Mathlib.Nat.{add-zero}
+use native.Mathlib.Decide.{ℕ-discrete}
+use native.Mathlib.Omega.{arith}
+use borrow.Author.Tests.{eq-eqb, ne-eqb}
+use lib.Dec.{eqb}
+use Rattle.numbers.specs.Choice.{if_then_else_}
+use Rattle.kinds.specs.Steps.{opAt}
+use Rattle.book.specs.Layout.{mostSteps, routinesOf, stepsOf, firstStep, stepCount, stepsBefore}
+use Rattle.book.specs.Book.{stepsPart, routinePart, routineSteps}
+use Rattle.book.specs.Accepted.{Accepted}
+use Rattle.book.proofs.Parts.{same-taken, same-routine}
+use Rattle.round.specs.History.{countBelow, stepsIn, Among}
+use Rattle.round.proofs.Along.{All, Distinct}
+use Rattle.round.proofs.Counting.{sumOver, count-all, count-same, count-sum}
+
+-- a sum over all below n
+unfoldable sumBelow : (ℕ → ℕ) → ℕ → ℕ
+sumBelow f zero = 0
+sumBelow f (suc n) = sumBelow f n + f n
+
+-- the summands but that of r
+abbrev without : ℕ → (ℕ → ℕ) → ℕ → ℕ
+without r f q = if eqb q r then 0 else f q
+
+module _ (r : ℕ) (f : ℕ → ℕ) where
+  without-own : without r f r ≡ 0
+  without-own = rw (eq-eqb r r refl)
+
+  without-other : (q : ℕ) → q ≢ r → without r f q ≡ f q
+  without-other q n = rw (ne-eqb q r n)
+
+  over-without : (rs : List ℕ) → (Among r rs → ⊥) → sumOver (without r f) rs ≡ sumOver f rs
+  unfolding sumOver
+  over-without [] n = refl
+  over-without (q ∷ qs) n =
+      omega (arith, without-other q (λ e. n (inl (sym e))), over-without qs (λ h. n (inr h)))
+
+  below-beyond : (n : ℕ) → n ≤ r → sumBelow (without r f) n ≡ sumBelow f n
+  unfolding sumBelow
+  below-beyond zero l = refl
+  below-beyond (suc n) l = omega (arith, without-other n (λ e. omega arith), below-beyond n (omega arith))
+
+  below-without : (n : ℕ) → r < n → sumBelow (without r f) n + f r ≡ sumBelow f n
+  unfolding sumBelow
+  below-without zero l = absurd (omega arith)
+  below-without (suc n) l =
+      elim (ℕ-discrete n r) [
+        | yes e ↦ rw e (omega (arith, without-own, below-beyond r (omega arith)))
+        | no d ↦ omega (arith, without-other n d, below-without n (omega arith))
+      ]
+
+-- distinct numbers below n: taking one out of both sums, by induction on them
+over-below : (f : ℕ → ℕ) (n : ℕ) (rs : List ℕ) → Distinct rs → All (λ r. r < n) rs → sumOver f rs ≤ sumBelow f n
+unfolding sumOver
+over-below f n [] d all = omega arith
+over-below f n (r ∷ rs) d all =
+    omega (arith, over-without r f rs (d .0), below-without r f n (all .0), over-below (without r f) n rs (d .1) (all .1))
+
+below-le : (f g : ℕ → ℕ) → ((r : ℕ) → f r ≤ g r) → (n : ℕ) → sumBelow f n ≤ sumBelow g n
+unfolding sumBelow
+below-le f g h zero = omega arith
+below-le f g h (suc n) = omega (arith, h n, below-le f g h n)
+
+-- a step of a routine is the step at its place in the book
+routine-op :
+    (book : List ℕ) (r p : ℕ) → p < stepCount book r → opAt (routineSteps book r) p ≡ opAt (stepsPart book) (firstStep book r + p)
+routine-op book r p l =
+    let part = same-taken (stepCount book r) (routinePart book r) p l .bytes 0 (omega arith) in
+    let whole = same-routine book r p .bytes 0 (omega arith) in
+    simp add-zero at (part ∙ whole)
+
+module _ (book : List ℕ) where
+  steps-sum :
+      (set : ℕ → ℕ → Bool) (L : List ℕ) → stepsIn book set L ≡ sumOver (λ r. countBelow (set r) (stepCount book r)) L
+  unfolding stepsIn sumOver
+  steps-sum set [] = refl
+  steps-sum set (r ∷ rs) = rw (steps-sum set rs)
+
+  -- distinct routines have at most what all have
+  steps-below :
+      (set : ℕ → ℕ → Bool) (L : List ℕ) → Distinct L → All (λ r. r < routinesOf book) L →
+      stepsIn book set L ≤ sumBelow (λ r. countBelow (set r) (stepCount book r)) (routinesOf book)
+  steps-below set L d all = rw steps-sum (over-below _ (routinesOf book) L d all)
+
+  counts-below : (n : ℕ) → sumBelow (λ r. stepCount book r) n ≡ stepsBefore book n
+  unfolding sumBelow stepsBefore
+  counts-below zero = refl
+  counts-below (suc n) = rw (counts-below n)
+
+module _ (book : List ℕ) (a : Accepted book) where
+  module _ (test : ℕ → Bool) where
+    abbrev inRoutine : ℕ → ℕ → Bool
+    inRoutine r p = test (opAt (routineSteps book r) p)
+
+    abbrev inBook : ℕ → Bool
+    inBook i = test (opAt (stepsPart book) i)
+
+    own-count :
+        (r : ℕ) → r < routinesOf book →
+        countBelow (inRoutine r) (stepCount book r) ≡ countBelow (λ p. inBook (stepsBefore book r + p)) (stepCount book r)
+    own-count r l =
+        count-same _ _ (stepCount book r) (λ p h. ap test (rw (a .directed .entries r l) at (routine-op book r p h)))
+
+    -- the first n routines are the first steps of the book
+    first-routines :
+        (n : ℕ) → n ≤ routinesOf book →
+        sumBelow (λ r. countBelow (inRoutine r) (stepCount book r)) n ≡ countBelow inBook (stepsBefore book n)
+    unfolding sumBelow stepsBefore countBelow
+    first-routines zero l = refl
+    first-routines (suc r) l =
+        let before = first-routines r (omega arith) in
+        omega (arith, own-count r l, count-sum inBook (stepsBefore book r) (stepCount book r))
+
+    pub steps-in-book :
+        (L : List ℕ) → Distinct L → All (λ r. r < routinesOf book) L →
+        stepsIn book (λ r p. test (opAt (routineSteps book r) p)) L ≤ countBelow (λ i. test (opAt (stepsPart book) i)) (stepsOf book)
+    steps-in-book L d all =
+        rw (← a .directed .total) (
+        omega (arith, steps-below book inRoutine L d all, first-routines (routinesOf book) (omega arith)))
+
+  pub few-steps :
+      (set : ℕ → ℕ → Bool) (L : List ℕ) → Distinct L → All (λ r. r < routinesOf book) L → stepsIn book set L ≤ mostSteps
+  few-steps set L d all =
+      omega (
+        arith,
+        steps-below book set L d all,
+        below-le _ (λ r. stepCount book r) (λ r. count-all (set r) (stepCount book r)) (routinesOf book),
+        counts-below book (routinesOf book),
+        a .directed .total,
+        a .laid .counts .fewSteps,
+      )

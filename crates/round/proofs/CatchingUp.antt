@@ -1,0 +1,169 @@
+-- The catching up, argued backwards: of what still happens, each routine that is going and waits for a thing goes past it if the thing is
+-- there or comes, and each try that found its thing missing owes the same. A turn before keeps that, and so does a pass before.
+use Prim.Native.Nat.{ℕ}
+use mathlib.Core.Path.{_≡_, refl, sym, _∙_, subst}
+use mathlib.Core.Bool.{true, false}
+use mathlib.Core.List.{List, [], _∷_, _++_, append-assoc}
+use mathlib.Core.Logic.{_⊎_, inl, inr, _≢_}
+use native.Mathlib.Decide.{ℕ-discrete}
+use native.Mathlib.Omega.{arith}
+use Rattle.round.specs.State.{State, Thing, Happening, gave, ended, missing, past, marked, completed, isThere}
+use Rattle.round.specs.History.{howMany, Among, Somewhere}
+use Rattle.round.specs.Rounds.{Played, again, turn, pass}
+use Rattle.round.specs.Demand.{Comes, IsPast, here, later, CatchesUp}
+use Rattle.round.specs.Whole.{isMiss}
+use Rattle.round.proofs.Along.{All}
+use Rattle.round.proofs.TurnLaws.{isGoing, moves, Waits, ToBeContinued, TurnLaws}
+use Rattle.round.proofs.Histories.{moves-append, somewhere-append, nothing-comes}
+use Rattle.round.proofs.Waiting.{by-flag, clash, passed}
+use Rattle.round.proofs.Closing.{there-again, waits-again}
+
+-- a missing thing does not come by being missing
+never-missing : {t u : Thing} {r p : ℕ} → Comes t (missing r p u) → ⊥
+unfolding howMany
+never-missing {t} {u} {r} {p} c = nothing-comes t (missing r p u ∷ []) refl (inl c)
+
+-- past a step in one of two histories
+module _ {r p : ℕ} {t : Thing} where
+  past-first : {a : List Happening} (b : List Happening) → IsPast r p t a → IsPast r p t (a ++ b)
+  past-first b here = here
+  past-first b (later w) = later (past-first b w)
+
+  past-second : (a : List Happening) {b : List Happening} → IsPast r p t b → IsPast r p t (a ++ b)
+  past-second [] w = w
+  past-second (h ∷ a) w = later (past-second a w)
+
+-- what a happening owes of the rest
+abbrev Owes : Happening → List Happening → Type 0
+Owes (gave e k) told = Unit {0}
+Owes (ended r) told = Unit {0}
+Owes (missing r p t) told = Somewhere (Comes t) told → IsPast r p t told
+Owes (past r p t) told = Unit {0}
+Owes (marked r n) told = Unit {0}
+Owes (completed r p) told = Unit {0}
+
+abbrev pub Caught : List Happening → Type 0
+Caught [] = Unit {0}
+Caught (h ∷ told) = Owes h told × Caught told
+
+pub catches : (told : List Happening) → Caught told → CatchesUp told
+catches told c before after r p t e = owed before (subst Caught e c)
+  where
+    owed : (a : List Happening) → Caught (a ++ (missing r p t ∷ after)) → Owes (missing r p t) after
+    owed [] c = c .0
+    owed (h ∷ a) c = owed a (c .1)
+
+-- where nothing moves, nothing is owed
+pub quiet-caught : (told : List Happening) → moves told ≡ 0 → Caught told
+quiet-caught [] m = tt
+quiet-caught (h ∷ told) m = let z : moves told ≡ 0 = omega (arith, moves-append (h ∷ []) told) in (none h z, quiet-caught told z)
+  where
+    none : (h : Happening) → moves told ≡ 0 → Owes h told
+    none (gave e k) z = tt
+    none (ended r) z = tt
+    none (missing r p t) z = λ w. absurd (nothing-comes t told z w)
+    none (past r p t) z = tt
+    none (marked r n) z = tt
+    none (completed r p) z = tt
+
+-- where nothing is missed, nothing more is owed
+calm-then : (a b : List Happening) → howMany isMiss a ≡ 0 → Caught b → Caught (a ++ b)
+unfolding howMany
+calm-then [] b m c = c
+calm-then (gave e k ∷ a) b m c = (tt, calm-then a b m c)
+calm-then (ended r ∷ a) b m c = (tt, calm-then a b m c)
+calm-then (missing r p t ∷ a) b m c = absurd (omega arith)
+calm-then (past r p t ∷ a) b m c = (tt, calm-then a b m c)
+calm-then (marked r n ∷ a) b m c = (tt, calm-then a b m c)
+calm-then (completed r p ∷ a) b m c = (tt, calm-then a b m c)
+
+module _ (book L : List ℕ) where
+  -- what the waiting routines have before them in state s, where b still happens
+  abbrev pub Owed : State → List Happening → Type 0
+  Owed s b =
+      (r p : ℕ) (t : Thing) → Among r L → isGoing s r ≡ true → Waits book s r p t → (isThere s t ≡ true) ⊎ Somewhere (Comes t) b →
+      IsPast r p t b
+
+  pub owed-again : (s : State) (b : List Happening) → Owed (again s) b → Owed s b
+  owed-again s b f r p t i g w (inl h) = f r p t i g (waits-again w) (inl (there-again s t ∙ h))
+  owed-again s b f r p t i g w (inr c) = f r p t i g (waits-again w) (inr c)
+
+module _ {book : List ℕ} {Listed : ℕ → Type 0} {Ok : State → Type 0} (laws : TurnLaws book Listed Ok) (L : List ℕ) where
+  module _ (r : ℕ) (s : State) (l : Listed r) (k : Ok s) (i : Among r L) (b : List Happening) where
+    -- the routine whose turn it is goes past, or misses again
+    owed-own :
+        s .eoi ≡ false → Owed book L (turn book r s .state) b → (p : ℕ) (t : Thing) → isGoing s r ≡ true → Waits book s r p t →
+        (isThere s t ≡ true) ⊎ Somewhere (Comes t) (turn book r s .told ++ b) → IsPast r p t (turn book r s .told ++ b)
+    owed-own e f p t g w c =
+        by-flag (isThere s t) (λ h. past-first b (laws .goesPast r p t s l k g w h))
+        (λ h.
+        subst
+        (λ (x : Played).
+        Owed book L (x .state) b → (isThere s t ≡ true) ⊎ Somewhere (Comes t) (x .told ++ b) → IsPast r p t (x .told ++ b))
+        (sym (laws .unchanged r p t s l k g w h e)) (λ f c. later (f r p t i g w (inr (comes-later h c)))) f c)
+      where
+        comes-later : isThere s t ≡ false → (isThere s t ≡ true) ⊎ Somewhere (Comes t) (missing r p t ∷ b) → Somewhere (Comes t) b
+        comes-later h (inl x) = clash x h
+        comes-later h (inr (inl x)) = absurd (never-missing x)
+        comes-later h (inr (inr x)) = x
+
+    -- for another, what is there stays, and what comes is there
+    owed-other :
+        (q : ℕ) → q ≢ r → turn book r s .state .tooMany ≡ false → Owed book L (turn book r s .state) b → (p : ℕ) (t : Thing) →
+        Among q L → isGoing s q ≡ true → Waits book s q p t → (isThere s t ≡ true) ⊎ Somewhere (Comes t) (turn book r s .told ++ b) →
+        IsPast q p t (turn book r s .told ++ b)
+    owed-other q n few f p t j g w c =
+        past-second (turn book r s .told)
+        (f q p t j (laws .others r q s l k n ∙ g) (laws .othersWait r q p t s l k n w) (came c))
+      where
+        came :
+            (isThere s t ≡ true) ⊎ Somewhere (Comes t) (turn book r s .told ++ b) →
+            (isThere (turn book r s .state) t ≡ true) ⊎ Somewhere (Comes t) b
+        came (inl h) = inl (laws .keeps r s t l k h)
+        came (inr x) =
+            elim (somewhere-append (Comes t) (turn book r s .told) b x) [ inl y ↦ inl (laws .brings r s t l k few y) | inr y ↦ inr y ]
+
+    owed-turn :
+        s .eoi ≡ false → turn book r s .state .tooMany ≡ false → Owed book L (turn book r s .state) b →
+        Owed book L s (turn book r s .told ++ b)
+    owed-turn e few f q p t j g w c =
+        elim (ℕ-discrete q r) [
+          | yes x ↦ rw x (owed-own e f p t (rw x at g) (rw x at w) c)
+          | no n ↦ owed-other q n few f p t j g w c
+        ]
+
+    caught-turn :
+        s .eoi ≡ false → Owed book L (turn book r s .state) b → Caught b → Caught (turn book r s .told ++ b)
+    caught-turn e f c =
+        by-flag (isGoing s r)
+        (λ g.
+        by-flag (isGoing (turn book r s .state) r) (λ h. missed h (laws .continues r s l k g h .1))
+        (λ h. calm-then (turn book r s .told) b (laws .calm r s l k g h e) c))
+        (λ g. subst (λ (x : Played). Caught (x .told ++ b)) (sym (laws .over r s l k g)) c)
+      where
+        missed :
+            isGoing (turn book r s .state) r ≡ true → ToBeContinued book r (turn book r s .state) (turn book r s .told) →
+            Caught (turn book r s .told ++ b)
+        missed h x =
+            let last = missing r (x .place) (x .thing) in
+            subst (λ (a : List Happening). Caught (a ++ b)) (sym (x .history))
+            (subst Caught (sym (append-assoc (x .before) (last ∷ []) b))
+            (calm-then (x .before) (last ∷ b) (x .calm) (λ z. f r (x .place) (x .thing) i h (x .waits) (inr z), c)))
+
+  -- a pass before what is caught
+  pub caught-pass :
+      (l : List ℕ) → All Listed l → ((r : ℕ) → Among r l → Among r L) → (s : State) → Ok s → s .eoi ≡ false →
+      pass book l s .state .tooMany ≡ false → (b : List Happening) → Owed book L (pass book l s .state) b → Caught b →
+      Owed book L s (pass book l s .told ++ b) × Caught (pass book l s .told ++ b)
+  unfolding pass
+  caught-pass [] a sub s k e few b f c = (f, c)
+  caught-pass (r ∷ l) a sub s k e few b f c =
+      let first = turn book r s in
+      let ok = laws .stays r s (a .0) k in
+      let rest = pass book l (first .state) .told in
+      let (g, d) = caught-pass l (a .1) (λ q i. sub q (inr i)) (first .state) ok (laws .eoi r s (a .0) k ∙ e) few b f c in
+      let i = sub r (inl refl) in
+      subst (λ (h : List Happening). Owed book L s h × Caught h) (sym (append-assoc (first .told) rest b)) (
+        owed-turn r s (a .0) k i (rest ++ b) e (passed laws l (a .1) (first .state) ok .few few) g,
+        caught-turn r s (a .0) k i (rest ++ b) e g d,
+      )

@@ -1,0 +1,139 @@
+-- What a turn's steps carry from one state to the next: what is there stays, what is told to be given is there, what is new has come, and
+-- the flag says whether a signal was given. It holds of each step, by what the step comes to, and of one after the other.
+use Prim.Native.Nat.{ℕ, _<_, _≤_}
+use mathlib.Core.Path.{_≡_, refl, sym, _∙_, ap}
+use mathlib.Core.Bool.{true, false, true≢false}
+use mathlib.Core.List.{List, [], _∷_, _++_}
+use mathlib.Core.Logic.{inl, inr}
+use native.Mathlib.Omega.{arith}
+use native.Mathlib.Decide.{decLt}
+use lib.ListN.{length}
+use Rattle.kinds.specs.declared.Counts.{Counts}
+use Rattle.book.specs.Layout.{mostSignals}
+use Rattle.book.specs.Book.{countsOf, routineSteps}
+use Rattle.round.specs.declared.Position.{Position}
+use Rattle.round.specs.declared.Effect.{Effect}
+use Rattle.round.specs.declared.Effect.the-variants.{Mark}
+use Rattle.round.specs.State.{State, Thing, Happening, gave, completed, isThere}
+use Rattle.round.specs.History.{howMany, Somewhere}
+use Rattle.round.specs.Ticks.{effectOn}
+use Rattle.round.specs.Rounds.{ticks, ticksOf}
+use Rattle.round.specs.Demand.{givesSignal, Comes}
+use Rattle.round.proofs.Acts.{Right, Says}
+use Rattle.round.proofs.Stepping.{ticks-along}
+use Rattle.round.proofs.Effects.{Untouched, untouched-same, untouched-then, effect-untouched, Ungiven, ungiven-same, effect-ungiven}
+use Rattle.round.proofs.Effects.{same-things, Gave, give, give-number}
+use Rattle.round.proofs.Histories.{many-append, stops-none, in-either, gift-given}
+pub use Rattle.round.proofs.Histories.{somewhere-append, none-told, isGift}
+use Rattle.round.proofs.Seats.{SameSeats}
+
+-- state u comes of state s, with this told between them
+pub record Carries (s : State) (told : List Happening) (u : State) : Type 0 where
+  pub present : length (u .present) ≡ length (s .present)
+  pub keeps : (t : Thing) → isThere s t ≡ true → isThere u t ≡ true
+  pub brings :
+      length (s .present) ≡ mostSignals → (t : Thing) → isGift t ≡ true → u .tooMany ≡ false → Somewhere (Comes t) told →
+      isThere u t ≡ true
+  pub came : (t : Thing) → isThere s t ≡ false → isThere u t ≡ true → Somewhere (Comes t) told
+  pub few : u .tooMany ≡ false → s .tooMany ≡ false
+  pub unmoved : howMany givesSignal told ≡ 0 → u .moved ≡ s .moved
+  pub moved : 0 < howMany givesSignal told → u .moved ≡ true
+
+-- no signal is given
+carries-none : {s u : State} (told : List Happening) → howMany givesSignal told ≡ 0 → Untouched s u → Ungiven s u → Carries s told u
+carries-none told none a b =
+    record {
+      present = ap length (b .present);
+      keeps = λ t h. same-things a b t ∙ h;
+      brings = λ l t g h k. absurd (none-told givesSignal (Comes t) (gift-given g) told none k);
+      came = λ t h k. absurd (true≢false (sym k ∙ same-things a b t ∙ h));
+      few = λ h. sym (b .tooMany) ∙ h;
+      unmoved = λ h. b .moved;
+      moved = λ h. absurd (omega arith);
+    }
+
+carries-same : (s : State) → Carries s [] s
+unfolding howMany
+carries-same s = carries-none [] refl untouched-same ungiven-same
+
+carries-then : (s u v : State) (a b : List Happening) → Carries s a u → Carries u b v → Carries s (a ++ b) v
+carries-then s u v a b c d =
+    let both = many-append givesSignal a b in
+    record {
+      present = d .present ∙ c .present;
+      keeps = λ t h. d .keeps t (c .keeps t h);
+      brings =
+          λ l t g h k.
+          elim (somewhere-append (Comes t) a b k) [
+            | inl m ↦ d .keeps t (c .brings l t g (d .few h) m)
+            | inr m ↦ d .brings (c .present ∙ l) t g h m
+          ];
+      came = λ t h k. in-either (Comes t) a b (isThere u t) (λ e. c .came t h e) (λ e. d .came t e k);
+      few = λ h. c .few (d .few h);
+      unmoved = λ h. d .unmoved (omega arith) ∙ c .unmoved (omega arith);
+      moved =
+          λ h.
+          elim (decLt 0 (howMany givesSignal b)) [
+            | yes m ↦ d .moved m
+            | no m ↦ d .unmoved (omega arith) ∙ c .moved (omega arith)
+          ];
+    }
+
+-- what came by a signal given is there
+pub come-there :
+    {s u : State} (t : Thing) {e k : ℕ} → e < length (s .present) → Gave s e k u → u .tooMany ≡ false → Comes t (gave e k) →
+    isThere u t ≡ true
+come-there t l b h Comes.signalGiven = b .signalThere l
+come-there t l b h Comes.numberGiven = b .numberThere h
+
+-- one signal is given
+carries-one :
+    {s u : State} (r p e k : ℕ) → e < mostSignals → Gave s e k u → Carries s (completed r p ∷ gave e k ∷ []) u
+unfolding howMany
+carries-one {s} {u} r p e k below b =
+    record {
+      present = b .present;
+      keeps = b .keeps;
+      brings = come;
+      came = λ t h there. inr (inl (b .came t h there));
+      few = b .few;
+      unmoved = λ h. absurd (omega arith);
+      moved = λ h. b .moved;
+    }
+  where
+    come :
+        length (s .present) ≡ mostSignals → (t : Thing) → isGift t ≡ true → u .tooMany ≡ false →
+        Somewhere (Comes t) (completed r p ∷ gave e k ∷ []) → isThere u t ≡ true
+    come l t g h (inr (inl m)) = come-there t (omega arith) b h m
+
+-- no step of a turn touches what no effect does
+module _ (counts : Counts) (r : ℕ) (steps : List ℕ) where
+  ticks-untouched : (n : ℕ) (x : Position) (s : State) → Untouched s (ticks n counts r steps x s .state)
+  ticks-untouched =
+      ticks-along counts r steps (λ s told u. Untouched s u) (λ s. untouched-same) (λ s u v a b first then. untouched-then first then)
+      (λ x s e told right says. effect-untouched s e) (λ x s how y told stops. untouched-same)
+
+  pub ticks-seats : (n : ℕ) (x : Position) (s : State) → SameSeats s (ticks n counts r steps x s .state)
+  ticks-seats n x s = ticks-untouched n x s .seats
+
+pub turn-untouched : (book : List ℕ) (r : ℕ) (s : State) → Untouched s (ticksOf book r s .state)
+turn-untouched book r s = ticks-untouched (countsOf book) r (routineSteps book r) _ _ s
+
+module _ (counts : Counts) (r : ℕ) (steps : List ℕ) (fewSignals : counts .signals ≤ mostSignals) where
+  -- a step that goes on
+  goes-carries :
+      (x : Position) (s : State) (e : Effect) (told : List Happening) → Right counts s e → Says counts r steps x s e told →
+      Carries s (completed r (x .place) ∷ told) (effectOn e s)
+  unfolding howMany
+  goes-carries x s e told right (Says.silent h o) = carries-none _ refl (effect-untouched s e) (effect-ungiven s e h)
+  goes-carries x s e told right (Says.marks {n} o) =
+      carries-none _ refl (effect-untouched s (Mark n)) (effect-ungiven s (Mark n) refl)
+  goes-carries x s e told (Right.give l) (Says.gives {e = a} o) = carries-one r _ a 0 (omega arith) (give s a)
+  goes-carries x s e told (Right.giveNumber l f) (Says.givesNumber {e = a} {v} o) =
+      carries-one r _ a _ (omega arith) (give-number s a v)
+  goes-carries x s e told right (Says.finds h o k) = carries-none _ refl (effect-untouched s e) (effect-ungiven s e h)
+
+  pub ticks-carry : (n : ℕ) (x : Position) (s : State) → Carries s (ticks n counts r steps x s .told) (ticks n counts r steps x s .state)
+  ticks-carry =
+      ticks-along counts r steps Carries carries-same carries-then goes-carries
+      (λ x s how y told stops. carries-none told (stops-none givesSignal refl (λ t. refl) stops) untouched-same ungiven-same)

@@ -1,0 +1,100 @@
+-- Demand 3, of every round of an accepted book from a game that fits, and of its answer; and that refusal 11 is never told.
+-- What is left to show after the theory of passes: a listed routine that does not go on and is not suspended is in stage 2 or 3, since it
+-- is listed in a game that fits.
+use Prim.Native.Nat.{ℕ, _<_, _≤_}
+use mathlib.Core.Path.{_≡_, refl, sym, ap, _∙_, subst}
+use mathlib.Core.Bool.{false, true≢false}
+use mathlib.Core.List.{List}
+use mathlib.Core.Logic.{_⊎_, inl, inr}
+use native.Mathlib.Decide.{ℕ-discrete}
+use native.Mathlib.Omega.{arith}
+use borrow.Author.Tests.{le-ltb, eq-eqb}
+use lib.ListN.{length}
+use lib.IntN.{ℤ}
+use Rattle.book.specs.declared.Verdict.{Verdict}
+use Rattle.book.specs.Verdicts.{accepted}
+use Rattle.book.specs.Layout.{routinesOf}
+use Rattle.book.specs.Accepted.{Accepted}
+use Rattle.game.specs.declared.Game.{Game}
+use Rattle.game.specs.Game.{continuing, rested, ended, notStarted, stopped, routineAt, Sized}
+use Rattle.game.specs.Fits.{Fits, In}
+use Rattle.round.specs.State.{State}
+use Rattle.round.specs.History.{Among}
+use Rattle.round.specs.Actions.{atStart}
+use Rattle.round.specs.Rounds.{mostPasses, listedIn, round}
+use Rattle.round.specs.Answers.{spaceFor, answer}
+use Rattle.round.specs.Tells.{RoundTells}
+use Rattle.round.specs.Demand.{Demand3}
+use Rattle.round.proofs.Given.{too-many}
+use Rattle.round.proofs.Telling.{round-tells, round-told-only, answer-verdict, played-out, told-playable}
+use Rattle.round.proofs.Sound.{Sound}
+use Rattle.round.proofs.Actions.{at-start-listed}
+use Rattle.round.proofs.Starting.{at-start-sound, among-listed}
+use Rattle.round.proofs.Passes.{FairRound, fair-round}
+use Rattle.round.proofs.Lawful.{turn-laws}
+use Rattle.round.proofs.Enough.{enough}
+use Rattle.round.proofs.Once.{completed-once}
+use Rattle.round.proofs.After.{round-keeps}
+
+-- of the stages of a listed routine, those in which it does not go on
+rests-or-ends :
+    (stage : ℕ) → stage ≤ stopped → (stage ≡ continuing → ⊥) → ((stage ≡ notStarted) ⊎ (stage ≡ stopped) → ⊥) →
+    (stage ≡ rested) ⊎ (stage ≡ ended)
+rests-or-ends stage l on out =
+    let low : stage ≡ notStarted → ⊥ = λ e. out (inl e) in
+    let high : stage ≡ stopped → ⊥ = λ e. out (inr e) in
+    elim (ℕ-discrete stage rested) [ yes e ↦ inl e | no n ↦ inr (omega arith) ]
+
+module _ (book : List ℕ) (a : Accepted book) (g : Game) (z : Sized g) (f : Fits book g) where
+  abbrev last : State
+  last = round book g .played .state
+
+  start-sound : Sound book (atStart g)
+  start-sound = at-start-sound book g a z f
+
+  fair : FairRound (listedIn g) (round book g)
+  unfolding round atStart
+  fair =
+      fair-round (turn-laws book a) (listedIn g) (at-start-listed book g (a .laid .counts) z f) mostPasses (atStart g) start-sound refl refl
+      (enough book a g z f .passes)
+
+  -- no more numbers are given than are kept, so every one that is told is there
+  pub none-lost : last .tooMany ≡ false
+  none-lost = too-many book g ∙ le-ltb _ _ (completed-once book a g z f .numbers)
+
+  rested-or-ended :
+      (r : ℕ) → Among r (listedIn g) → routineAt (atStart g .game) r .suspended ≡ false →
+      (routineAt (last .game) r .stage ≡ rested) ⊎ (routineAt (last .game) r .stage ≡ ended)
+  rested-or-ended r i awake =
+      let kept = round-keeps book a g z f in
+      let fits = kept .sound .fits in
+      let (k, l, e) = among-listed book g a z f r i in
+      let lower : r < routinesOf book = subst (λ q. q < routinesOf book) e (start-sound .fits .entriesInRange .0 k l) in
+      let here : In (last .game .listed) r = rw (kept .listed) (k, l, e) in
+      let off = fair .noneGoing r i in
+      rests-or-ends (routineAt (last .game) r .stage) (fits .stagesInRange r lower)
+      (λ on. true≢false (rw (kept .suspended r ∙ awake, eq-eqb _ _ on) at off))
+      (λ out. fits .unlistedStages r lower out here)
+
+  pub demand-3 : Demand3 book g (round book g .passes) (last .game)
+  demand-3 =
+      record {
+        fewPasses = omega (arith, fair .few);
+        fewSignals = completed-once book a g z f .signals;
+        restedOrEnded = rested-or-ended;
+        caughtUp = fair .catchesUp none-lost;
+      }
+
+  -- "More than 1,024 numbers are given in one round." never applies: a buffer that is long enough is all that is left to ask
+  pub round-accepted : (buffer : List ℤ) → spaceFor book ≤ length buffer → answer book g buffer .verdict ≡ accepted
+  round-accepted buffer space =
+      answer-verdict book g buffer ∙ round-told-only (RoundTells.nothing a f space (completed-once book a g z f .numbers))
+
+-- the passes and the game of an accepted answer
+pub answer-demand-3 :
+    (book : List ℕ) (g : Game) (buffer : List ℤ) → Sized g → answer book g buffer .verdict ≡ accepted →
+    Demand3 book g (answer book g buffer .passes) (answer book g buffer .game)
+answer-demand-3 book g buffer z e =
+    let h = ap (λ (v : Verdict). v .number) (sym (answer-verdict book g buffer) ∙ e) in
+    let (a, fits, space, few) = told-playable (round-tells book g buffer) h in
+    rw (played-out book g buffer h) (demand-3 book a g z fits)

@@ -1,0 +1,229 @@
+-- What a step's effect does to the things that a try asks for, to the flags, and to where each routine sits. By cases on the effect: one
+-- that gives no signal touches none of them, and one that gives makes its signal and its number there, and nothing else, and takes nothing
+-- away.
+use Prim.Native.Nat.{ℕ, zero, suc, _+_, _<_, _≤_}
+use mathlib.Core.Path.{_≡_, refl, sym, subst, _∙_, ap}
+use mathlib.Core.Bool.{Bool, true, false, true≢false}
+use mathlib.Core.List.{List, [], _∷_, _++_}
+use native.Mathlib.Nat.{le-trans}
+use native.Mathlib.Decide.{ℕ-discrete}
+use native.Mathlib.Omega.{arith}
+use borrow.Author.Tests.{le-leb, leb-true, leb-false, eq-eqb, ne-eqb}
+use lib.Dec.{eqb, leb, ltb}
+use lib.ListN.{length, getD, set, length-set, length-append}
+use lib.IntN.{ℤ}
+use lib.Seq.{getD-set-same, getD-set-other}
+use Rattle.numbers.specs.Choice.{if_then_else_}
+use Rattle.game.specs.declared.Game.{Game}
+use Rattle.game.specs.Game.{blank, routineAt, withFlags, withRoutine}
+use Rattle.game.specs.Game as stage
+use Rattle.game.proofs.Below.{by-test}
+use Rattle.round.specs.declared.Effect.{Effect}
+use Rattle.round.specs.declared.Effect.the-variants.{Nothing, Mark, Put, Add, Give, GiveNumber, Start, Stop, Suspend, Resume}
+use Rattle.round.specs.State.{State, withGame, withNumbers, Thing, signal, end, number, gave, numbersWith, numbersOf}
+use Rattle.round.specs.State.{isEndThere, isThere}
+use Rattle.round.specs.Actions.{positionOf}
+use Rattle.round.specs.Ticks.{mostNumbers, given, effectOn}
+use Rattle.round.specs.Demand.{Comes}
+use Rattle.round.proofs.Acts.{isGiving}
+use Rattle.round.proofs.Maps.{same-set}
+use Rattle.round.proofs.Seats.{SameSeat, seat-then, SameSeats}
+pub use Rattle.round.proofs.Seats.{same-seat}
+
+-- what no effect touches
+pub record Untouched (s u : State) : Type 0 where
+  pub seats : SameSeats s u
+  pub listed : u .game .listed ≡ s .game .listed
+  pub counts : u .game .counts ≡ s .game .counts
+  pub endSignals : u .endSignals ≡ s .endSignals
+  pub eoi : u .eoi ≡ s .eoi
+
+pub untouched-same : {s : State} → Untouched s s
+untouched-same = record { seats = λ q. same-seat; listed = refl; counts = refl; endSignals = refl; eoi = refl }
+
+pub untouched-then : {s u v : State} → Untouched s u → Untouched u v → Untouched s v
+untouched-then a b =
+    record {
+      seats = λ q. seat-then (a .seats q) (b .seats q);
+      listed = b .listed ∙ a .listed;
+      counts = b .counts ∙ a .counts;
+      endSignals = b .endSignals ∙ a .endSignals;
+      eoi = b .eoi ∙ a .eoi;
+    }
+
+module _ (s : State) where
+  untouched-but :
+      {u : State} → u .game .routines ≡ s .game .routines → u .game .listed ≡ s .game .listed → u .game .counts ≡ s .game .counts →
+      u .endSignals ≡ s .endSignals → u .eoi ≡ s .eoi → Untouched s u
+  untouched-but e l c n o =
+      record {
+        seats = λ q. subst (λ xs. SameSeat (getD xs q blank) (routineAt (s .game) q)) (sym e) same-seat;
+        listed = l;
+        counts = c;
+        endSignals = n;
+        eoi = o;
+      }
+
+  flags-untouched :
+      (t : ℕ) (a b c : Bool) → Untouched s (withGame s (withRoutine (s .game) t (withFlags (routineAt (s .game) t) a b c)))
+  flags-untouched t a b c =
+      record {
+        seats =
+            λ q.
+            record {
+              stage = same-set (λ x. x .stage) (s .game .routines) t _ blank refl q;
+              suspended = same-set (λ x. x .suspended) (s .game .routines) t _ blank refl q;
+              position = same-set (λ x. positionOf x) (s .game .routines) t _ blank refl q;
+            };
+        listed = refl;
+        counts = refl;
+        endSignals = refl;
+        eoi = refl;
+      }
+
+  pub effect-untouched : (e : Effect) → Untouched s (effectOn e s)
+  unfolding effectOn
+  effect-untouched Nothing = untouched-same
+  effect-untouched (Mark n) = untouched-same
+  effect-untouched (Put c v) = untouched-but refl refl refl refl refl
+  effect-untouched (Add c v) = untouched-but refl refl refl refl refl
+  effect-untouched (Give e) = untouched-but refl refl refl refl refl
+  effect-untouched (GiveNumber e v) =
+      by-test (Untouched s) (ltb (length (s .numbers)) mostNumbers)
+      (λ h. untouched-but refl refl refl refl refl)
+      (λ h. untouched-but refl refl refl refl refl)
+  effect-untouched (Start t) = untouched-but refl refl refl refl refl
+  effect-untouched (Stop t) = flags-untouched t _ _ _
+  effect-untouched (Suspend t) = flags-untouched t _ _ _
+  effect-untouched (Resume t) = flags-untouched t _ _ _
+
+-- what an effect that gives no signal leaves besides
+pub record Ungiven (s u : State) : Type 0 where
+  pub present : u .present ≡ s .present
+  pub numbers : u .numbers ≡ s .numbers
+  pub tooMany : u .tooMany ≡ s .tooMany
+  pub moved : u .moved ≡ s .moved
+
+game-ungiven : (s : State) (g : Game) → Ungiven s (withGame s g)
+game-ungiven s g = record { present = refl; numbers = refl; tooMany = refl; moved = refl }
+
+pub ungiven-same : {s : State} → Ungiven s s
+ungiven-same = record { present = refl; numbers = refl; tooMany = refl; moved = refl }
+
+pub effect-ungiven : (s : State) (e : Effect) → isGiving e ≡ false → Ungiven s (effectOn e s)
+unfolding effectOn
+effect-ungiven s Nothing h = ungiven-same
+effect-ungiven s (Mark n) h = ungiven-same
+effect-ungiven s (Put c v) h = game-ungiven s _
+effect-ungiven s (Add c v) h = game-ungiven s _
+effect-ungiven s (Give e) h = absurd (true≢false h)
+effect-ungiven s (GiveNumber e v) h = absurd (true≢false h)
+effect-ungiven s (Start t) h = game-ungiven s _
+effect-ungiven s (Stop t) h = game-ungiven s _
+effect-ungiven s (Suspend t) h = game-ungiven s _
+effect-ungiven s (Resume t) h = game-ungiven s _
+
+-- a routine's end is there by its stage and its end signal alone
+pub same-end :
+    (s u : State) (r : ℕ) → eqb (routineAt (u .game) r .stage) stage.ended ≡ eqb (routineAt (s .game) r .stage) stage.ended →
+    u .endSignals ≡ s .endSignals → isThere u (end r) ≡ isThere s (end r)
+unfolding isThere isEndThere
+same-end s u r h k = rw (h, k)
+
+-- so the same things are there
+pub same-things : {s u : State} → Untouched s u → Ungiven s u → (t : Thing) → isThere u t ≡ isThere s t
+unfolding isThere
+same-things a b (signal e) = ap (λ l. getD l e false) (b .present)
+same-things {s} {u} a b (end r) = same-end s u r (ap (λ n. eqb n stage.ended) (a .seats r .stage)) (a .endSignals)
+same-things a b (number e k) = ap (λ l. leb k (length (numbersWith e l))) (b .numbers)
+
+-- a flag that is set stays set where another one is
+set-keeps : (l : List Bool) (i j : ℕ) → getD l j false ≡ true → getD (set l i true) j false ≡ true
+set-keeps [] i j h = h
+set-keeps (x ∷ l) zero zero h = refl
+set-keeps (x ∷ l) zero (suc j) h = h
+set-keeps (x ∷ l) (suc i) zero h = h
+set-keeps (x ∷ l) (suc i) (suc j) h = set-keeps l i j h
+
+numbers-append : (e : ℕ) (l m : List (ℕ × ℤ)) → numbersWith e (l ++ m) ≡ numbersWith e l ++ numbersWith e m
+unfolding numbersWith
+numbers-append e [] m = refl
+numbers-append e (x ∷ l) m = chosen (eqb (x .0) e) (x .1) _ _ _ (numbers-append e l m)
+  where
+    chosen : (t : Bool) (v : ℤ) (a b c : List ℤ) → a ≡ b ++ c → (if t then v ∷ a else a) ≡ (if t then v ∷ b else b) ++ c
+    chosen true v a b c h = ap (λ (k : List ℤ). v ∷ k) h
+    chosen false v a b c h = h
+
+-- signal e was given with its k-th number, or with none for k = 0
+pub record Gave (s : State) (e k : ℕ) (u : State) : Type 0 where
+  pub present : length (u .present) ≡ length (s .present)
+  pub keeps : (t : Thing) → isThere s t ≡ true → isThere u t ≡ true
+  pub came : (t : Thing) → isThere s t ≡ false → isThere u t ≡ true → Comes t (gave e k)
+  pub signalThere : e < length (s .present) → isThere u (signal e) ≡ true
+  pub numberThere : u .tooMany ≡ false → isThere u (number e k) ≡ true
+  pub few : u .tooMany ≡ false → s .tooMany ≡ false
+  pub moved : u .moved ≡ true
+
+module _ (s : State) (e : ℕ) where
+  -- with these numbers, of which none is new but the k-th, and this flag for too many
+  gave-with :
+      (k : ℕ) (l : List (ℕ × ℤ)) (over : Bool) → ((f : ℕ) → length (numbersOf s f) ≤ length (numbersWith f l)) →
+      ((f j : ℕ) → length (numbersOf s f) < j → j ≤ length (numbersWith f l) → (f ≡ e) × (j ≡ k)) →
+      (over ≡ false → (k ≤ length (numbersWith e l)) × (s .tooMany ≡ false)) → Gave s e k (withNumbers (given s e) l over)
+  unfolding isThere isEndThere
+  gave-with k l over more new room =
+      record {
+        present = length-set (s .present) e true;
+        keeps = kept;
+        came = comes;
+        signalThere = λ h. getD-set-same (s .present) e true false h;
+        numberThere = λ h. le-leb _ _ (room h .0);
+        few = λ h. room h .1;
+        moved = refl;
+      }
+    where
+      kept : (t : Thing) → isThere s t ≡ true → isThere (withNumbers (given s e) l over) t ≡ true
+      kept (signal f) h = set-keeps (s .present) e f h
+      kept (end r) h = h
+      kept (number f j) h = le-leb j _ (le-trans (leb-true j _ h) (more f))
+
+      comes : (t : Thing) → isThere s t ≡ false → isThere (withNumbers (given s e) l over) t ≡ true → Comes t (gave e k)
+      comes (signal f) h there =
+          elim (ℕ-discrete f e) [
+            | yes m ↦ subst (λ i. Comes (signal i) (gave e k)) (sym m) Comes.signalGiven
+            | no n ↦ absurd (true≢false (sym there ∙ getD-set-other (s .present) e f true false n ∙ h))
+          ]
+      comes (end r) h there = absurd (true≢false (sym there ∙ h))
+      comes (number f j) h there =
+          let (m, n) = new f j (leb-false j _ h) (leb-true j _ there) in
+          subst (λ i. Comes (number i j) (gave e k)) (sym m) (subst (λ i. Comes (number e i) (gave e k)) (sym n) Comes.numberGiven)
+
+  pub give : Gave s e 0 (effectOn (Give e) s)
+  unfolding effectOn
+  give = gave-with 0 (s .numbers) (s .tooMany) (λ f. omega arith) (λ f j l m. absurd (omega arith)) (λ h. (omega arith, h))
+
+  pub give-number : (v : ℤ) → Gave s e (length (numbersOf s e) + 1) (effectOn (GiveNumber e v) s)
+  unfolding effectOn numbersWith
+  give-number v =
+      by-test (Gave s e (length (numbersOf s e) + 1)) (ltb (length (s .numbers)) mostNumbers)
+      (λ h.
+      gave-with _ _ _ (λ f. rw (numbers-append, length-append) (omega arith))
+      (λ f j l m. next f j l (rw (numbers-append, length-append) at m)) (λ h. (rw (numbers-append, length-append) one, h)))
+      (λ h. gave-with _ _ _ (λ f. omega arith) (λ f j l m. absurd (omega arith)) (λ h. absurd (true≢false h)))
+    where
+      one : length (numbersOf s e) + 1 ≤ length (numbersOf s e) + length (numbersWith e ((e, v) ∷ []))
+      one = rw (eq-eqb e e refl) (omega arith)
+
+      next :
+          (f j : ℕ) → length (numbersOf s f) < j → j ≤ length (numbersOf s f) + length (numbersWith f ((e, v) ∷ [])) →
+          (f ≡ e) × (j ≡ length (numbersOf s e) + 1)
+      next f j l m =
+          elim (ℕ-discrete f e) [
+            | yes h ↦
+                let least : length (numbersOf s e) < j = rw h at l in
+                let most : j ≤ length (numbersOf s e) + 1 = rw (eq-eqb e f (sym h), h) at m in
+                (h, omega arith)
+            | no n ↦
+                let most : j ≤ length (numbersOf s f) + 0 = rw (ne-eqb e f (λ h. n (sym h))) at m in
+                absurd (omega arith)
+          ]

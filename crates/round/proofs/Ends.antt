@@ -1,0 +1,230 @@
+-- "A routine ended in the round if a pass brought it to stage 3": what a round tells of ends is what the stages of its listed routines say
+-- behind it. By the claim that the ends told, of one routine or of all, and the listed routines in stage 3 before are together as many as
+-- those in stage 3 behind: a turn's last step alone may tell an end, and it does where the turn leaves its routine in stage 3.
+use Prim.Native.Nat.{ℕ, _+_, _<_}
+use mathlib.Core.Path.{_≡_, refl, sym, ap, _∙_}
+use mathlib.Core.Bool.{Bool, true, false, _&&_, true≢false, and-true, and-false}
+use mathlib.Core.List.{List, [], _∷_, _++_}
+use mathlib.Core.Logic.{_↔_, inl, inr, _≢_}
+use native.Mathlib.Omega.{arith}
+use borrow.Author.Tests.{eq-eqb, ne-eqb, eqb-true}
+use lib.Dec.{eqb}
+use lib.ListN.{length}
+use Rattle.numbers.specs.Choice.{if_then_else_}
+use Rattle.kinds.specs.declared.Counts.{Counts}
+use Rattle.book.specs.Layout.{routinesOf}
+use Rattle.book.specs.Accepted.{Accepted}
+use Rattle.game.specs.declared.Routine.{Routine}
+use Rattle.game.specs.declared.Game.{Game}
+use Rattle.game.specs.Game.{continuing, routineAt, Sized}
+use Rattle.game.specs.Game as stage
+use Rattle.game.specs.Fits.{Fits}
+use Rattle.game.proofs.Below.{by-test}
+use Rattle.round.specs.declared.Ending.{Ending}
+use Rattle.round.specs.declared.Position.{Position}
+use Rattle.round.specs.State.{State, Happening, gave, ended, missing, past, marked, completed}
+use Rattle.round.specs.History.{howMany, Somewhere, Among}
+use Rattle.round.specs.Actions.{kept, atStart}
+use Rattle.round.specs.Rounds.{stageAfter, again, mostPasses, listedIn, ticksOf, turn, round, historyOf}
+use Rattle.round.specs.Demand.{endsRoutine}
+use Rattle.round.proofs.Acts.{Stops, ends, rests, misses, continues}
+use Rattle.round.proofs.Counting.{sumOver, one}
+use Rattle.round.proofs.Histories.{many-append, none-told}
+use Rattle.round.proofs.Along.{All, among-all, Distinct, instant-along}
+use Rattle.round.proofs.Actions.{at-start-listed}
+use Rattle.round.proofs.Sound.{Sound}
+use Rattle.round.proofs.Starting.{listed-distinct, among-listed, listed-stage, at-start-sound}
+use Rattle.round.proofs.Coming.{turn-untouched}
+use Rattle.round.proofs.AfterTurn.{going-parts, turn-by, routine-after}
+use Rattle.round.proofs.Outcomes.{turn-shape}
+use Rattle.round.proofs.Staying.{turn-sound, again-sound}
+use Rattle.round.proofs.Moving.{turn-seats}
+
+-- sums over some routines, of which r alone counts n more by g than by f
+module _ (f g : ℕ → ℕ) (r : ℕ) (others : (q : ℕ) → q ≢ r → g q ≡ f q) where
+  others-sum : (L : List ℕ) → (Among r L → ⊥) → sumOver g L ≡ sumOver f L
+  unfolding sumOver
+  others-sum [] out = refl
+  others-sum (q ∷ qs) out = omega (arith, others q (λ e. out (inl (sym e))), others-sum qs (λ h. out (inr h)))
+
+  own-sum : (n : ℕ) → n + f r ≡ g r → (L : List ℕ) → Distinct L → Among r L → n + sumOver f L ≡ sumOver g L
+  unfolding sumOver
+  own-sum n own (q ∷ qs) d (inl e) = rw (← e) (omega (arith, own, others-sum qs (rw (← e) at (d .0))))
+  own-sum n own (q ∷ qs) d (inr h) = omega (arith, others q (λ e. d .0 (rw e h)), own-sum n own qs (d .1) h)
+
+none-sum : (f : ℕ → ℕ) (L : List ℕ) → ((r : ℕ) → Among r L → f r ≡ 0) → sumOver f L ≡ 0
+unfolding sumOver
+none-sum f [] none = refl
+none-sum f (r ∷ rs) none = omega (arith, none r (inl refl), none-sum f rs (λ q h. none q (inr h)))
+
+kept-sum : (test : ℕ → Bool) (L : List ℕ) → length (kept test L) ≡ sumOver (λ r. one (test r)) L
+unfolding kept sumOver
+kept-sum test [] = refl
+kept-sum test (r ∷ rs) =
+    let rest = kept-sum test rs in
+    by-test (λ (l : List ℕ). length l ≡ one (test r) + sumOver (λ q. one (test q)) rs) (test r) (λ h. rw h (omega arith))
+    (λ h. rw h (omega arith))
+
+-- what holds of those among some routines holds of each of them
+each-among : (P : ℕ → Type 0) (L : List ℕ) → ((r : ℕ) → Among r L → P r) → All P L
+each-among P [] h = tt
+each-among P (r ∷ rs) h = (h r (inl refl), each-among P rs (λ q k. h q (inr k)))
+
+-- routine r is in stage 3
+abbrev isEnded : State → ℕ → Bool
+isEnded s r = eqb (routineAt (s .game) r .stage) stage.ended
+
+-- a test of what is told that passes ends alone
+module _ (test : Happening → Bool) (only : (h : Happening) → endsRoutine h ≡ false → test h ≡ false) where
+  no-end : (told : List Happening) → howMany endsRoutine told ≡ 0 → howMany test told ≡ 0
+  unfolding howMany
+  no-end [] e = refl
+  no-end (h ∷ told) e = let (first, rest) = parts (endsRoutine h) _ e in rw (only h first) (no-end told rest)
+    where
+      parts : (t : Bool) (n : ℕ) → (if t then n + 1 else n) ≡ 0 → (t ≡ false) × (n ≡ 0)
+      parts true n e = absurd (omega arith)
+      parts false n e = (refl, e)
+
+  -- a last step tells the end of its routine if it leads to stage 3
+  stops-told :
+      {counts : Counts} {r : ℕ} {steps : List ℕ} {x : Position} {s : State} {how : Ending} {y : Position} {told : List Happening} →
+      Stops counts r steps x s how y told → howMany test told ≡ one (test (ended r) && eqb (stageAfter how) stage.ended)
+  unfolding howMany
+  stops-told {r = r} ends = rw (and-true (test (ended r)))
+  stops-told {r = r} rests = rw (and-false (test (ended r)))
+  stops-told {r = r} {x = x} (misses {t = t} k h e) = rw (only (missing r (x .place) t) refl, and-false (test (ended r)))
+  stops-told {r = r} {x = x} (continues {t} k h e) = rw (only (missing r (x .place) t) refl, and-false (test (ended r)))
+
+-- something that passes a test is told, which is P
+some-told :
+    (test : Happening → Bool) (P : Happening → Type 0) → ((h : Happening) → test h ≡ true → P h) → (told : List Happening) →
+    0 < howMany test told → Somewhere P told
+unfolding howMany
+some-told test P such [] some = absurd (omega arith)
+some-told test P such (h ∷ told) some = first (test h) (such h) (some-told test P such told) some
+  where
+    first :
+        (t : Bool) → (t ≡ true → P h) → (0 < howMany test told → Somewhere P told) →
+        0 < (if t then howMany test told + 1 else howMany test told) → Somewhere P (h ∷ told)
+    first true now later k = inl (now refl)
+    first false now later k = inr (later k)
+
+-- an end of routine q is told
+abbrev endsOf : ℕ → Happening → Bool
+endsOf q (gave e k) = false
+endsOf q (ended r) = eqb r q
+endsOf q (missing r p t) = false
+endsOf q (past r p t) = false
+endsOf q (marked r n) = false
+endsOf q (completed r p) = false
+
+end-alone : (q : ℕ) (h : Happening) → endsRoutine h ≡ false → endsOf q h ≡ false
+end-alone q (gave e k) n = refl
+end-alone q (ended r) n = absurd (true≢false n)
+end-alone q (missing r p t) n = refl
+end-alone q (past r p t) n = refl
+end-alone q (marked r m) n = refl
+end-alone q (completed r p) n = refl
+
+is-end-of : (q : ℕ) (h : Happening) → endsOf q h ≡ true → h ≡ ended q
+is-end-of q (gave e k) n = absurd (true≢false (sym n))
+is-end-of q (ended r) n = ap ended (eqb-true r q n)
+is-end-of q (missing r p t) n = absurd (true≢false (sym n))
+is-end-of q (past r p t) n = absurd (true≢false (sym n))
+is-end-of q (marked r m) n = absurd (true≢false (sym n))
+is-end-of q (completed r p) n = absurd (true≢false (sym n))
+
+-- routine r counts if it is in stage 3 and its end passes a test
+abbrev counted : (Happening → Bool) → State → ℕ → ℕ
+counted test s r = one (test (ended r) && isEnded s r)
+
+module _ (book : List ℕ) (a : Accepted book) (g : Game) (z : Sized g) (f : Fits book g) where
+  abbrev back : State
+  back = round book g .played .state
+
+  distinct : Distinct (listedIn g)
+  distinct = listed-distinct book g a z f
+
+  -- the ends told that pass a test are those of the listed routines that come to stage 3
+  module _ (test : Happening → Bool) (only : (h : Happening) → endsRoutine h ≡ false → test h ≡ false) where
+    -- a turn tells its routine's end if it brings it to stage 3
+    own-told :
+        (r : ℕ) (s : State) → r < routinesOf book →
+        howMany test (turn book r s .told) + counted test s r ≡ counted test (turn book r s .state) r
+    unfolding howMany
+    own-told r s l =
+        let t = ticksOf book r s in
+        let shape = turn-shape book a r s l in
+        let told = ap (howMany test) (shape .history) ∙ many-append test (shape .before) (shape .lastTold) in
+        let none = no-end test only (shape .before) (shape .noEnd) in
+        turn-by book r s (λ p. howMany test (p .told) + counted test s r ≡ counted test (p .state) r) (λ h. omega arith)
+        (λ h.
+        let now : routineAt (s .game) r .stage ≡ continuing = going-parts (routineAt (s .game) r .suspended) _ h .1 in
+        let after = ap (λ (x : Routine). x .stage) (routine-after r s t (turn-untouched book r s .seats r) h) in
+        rw (now, after, and-false (test (ended r))) (omega (arith, stops-told test only (shape .stops))))
+
+    abbrev total : State → ℕ
+    total s = sumOver (counted test s) (listedIn g)
+
+    abbrev Claim : State → List Happening → State → Type 0
+    Claim s told u = Sound book s → Sound book u × (howMany test told + total s ≡ total u)
+
+    claim-none : (s : State) → Claim s [] s
+    unfolding howMany
+    claim-none s ok = (ok, omega arith)
+
+    claim-both : (s u v : State) (b c : List Happening) → Claim s b u → Claim u c v → Claim s (b ++ c) v
+    claim-both s u v b c first second ok =
+        let (between, one) = first ok in
+        let (sound, two) = second between in
+        (sound, omega (arith, many-append test b c))
+
+    claim-turn :
+        (r : ℕ) → (r < routinesOf book) × Among r (listedIn g) → (s : State) → Claim s (turn book r s .told) (turn book r s .state)
+    claim-turn r (l, inside) s ok =
+        let u = turn book r s .state in
+        let others : (q : ℕ) → q ≢ r → counted test u q ≡ counted test s q =
+        λ q n. ap (λ k. one (test (ended q) && eqb k stage.ended)) (turn-seats book a r q s l ok n .stage) in
+        (turn-sound book a r s l ok, own-sum (counted test s) (counted test u) r others _ (own-told r s l) (listedIn g) distinct inside)
+
+    claim-again : (s : State) → Claim s [] (again s)
+    unfolding howMany
+    claim-again s ok = (again-sound s ok, omega arith)
+
+    -- at the start none of them is in stage 3
+    round-told : howMany test (historyOf book g) ≡ total back
+    unfolding round
+    round-told =
+        let L = listedIn g in
+        let Below : ℕ → Type 0 = λ r. r < routinesOf book in
+        let below = at-start-listed book g (a .laid .counts) z f in
+        let told =
+        instant-along Claim claim-none claim-both book (λ r. Below r × Among r L) claim-turn claim-again mostPasses L
+        (each-among (λ r. Below r × Among r L) L (λ r h. (among-all Below r L below h, h))) (atStart g) (at-start-sound book g a z f) .1 in
+        let none =
+        none-sum (counted test (atStart g)) L
+        (λ r h. rw (listed-stage book g a z f r (among-listed book g a z f r h), and-false (test (ended r)))) in
+        omega (arith, told)
+
+  pub ends-counted :
+      howMany endsRoutine (historyOf book g) ≡ length (kept (λ r. eqb (routineAt (back .game) r .stage) stage.ended) (listedIn g))
+  ends-counted = round-told endsRoutine (λ h e. e) ∙ sym (kept-sum (isEnded back) (listedIn g))
+
+  module _ (r : ℕ) (inside : Among r (listedIn g)) where
+    own-counted : howMany (endsOf r) (historyOf book g) ≡ one (isEnded back r)
+    own-counted =
+        let own = own-sum (λ q. 0) (counted (endsOf r) back) r (λ q n. rw (ne-eqb q r n)) (one (isEnded back r))
+        (rw (eq-eqb r r refl) (omega arith)) (listedIn g) distinct inside in
+        omega (arith, round-told (endsOf r) (end-alone r), none-sum (λ q. 0) (listedIn g) (λ q h. refl))
+
+    pub ended-as-told : (routineAt (back .game) r .stage ≡ stage.ended) ↔ Somewhere (λ h. h ≡ ended r) (historyOf book g)
+    ended-as-told = (
+      λ e.
+          some-told (endsOf r) (λ h. h ≡ ended r) (is-end-of r) (historyOf book g)
+          (rw (own-counted, eq-eqb (routineAt (back .game) r .stage) stage.ended e) (omega arith)),
+      λ h. eqb-true _ _ (by (isEnded back r) own-counted h),
+    )
+      where
+        by : (t : Bool) → howMany (endsOf r) (historyOf book g) ≡ one t → Somewhere (λ h. h ≡ ended r) (historyOf book g) → t ≡ true
+        by true e h = refl
+        by false e h = absurd (none-told (endsOf r) (λ h. h ≡ ended r) (λ h k. rw k (eq-eqb r r refl)) (historyOf book g) e h)

@@ -1,0 +1,109 @@
+-- The steps that a turn may take and the passes that a round may take are enough. A pass that sets the flag gives a signal or ends a
+-- routine, so it pays from what is left of the listed routines' signal steps and of the routines themselves; at the start that is at most
+-- 1,024 and 64.
+use Prim.Native.Nat.{ℕ, _+_, _<_, _≤_}
+use mathlib.Core.Path.{_≡_, refl}
+use mathlib.Core.Bool.{Bool}
+use mathlib.Core.List.{List, [], _∷_}
+use native.Mathlib.Omega.{arith}
+use lib.ListN.{length}
+use Rattle.book.specs.Layout.{mostRoutines, routinesOf, stepCount}
+use Rattle.book.specs.Accepted.{Accepted}
+use Rattle.game.specs.declared.Game.{Game}
+use Rattle.game.specs.Game.{Sized}
+use Rattle.game.specs.Fits.{Fits}
+use Rattle.game.proofs.Below.{by-test}
+use Rattle.game.proofs.Decides.{fit-lists}
+use Rattle.round.specs.State.{State}
+use Rattle.round.specs.History.{countBelow, stepsIn, howMany}
+use Rattle.round.specs.Actions.{atStart}
+use Rattle.round.specs.Rounds.{again, mostPasses, listedIn, turn, pass}
+use Rattle.round.specs.Enough.{Enough}
+use Rattle.round.specs.Demand.{isSignalStep, givesSignal, endsRoutine}
+use Rattle.round.proofs.Along.{All}
+use Rattle.round.proofs.Sound.{Sound}
+use Rattle.round.proofs.TurnLaws.{isGoing, moves}
+use Rattle.round.proofs.Counting.{sumOver}
+use Rattle.round.proofs.Entries.{entries-length}
+use Rattle.round.proofs.Actions.{at-start-listed}
+use Rattle.round.proofs.Starting.{at-start-sound, listed-distinct}
+use Rattle.round.proofs.Lasting.{routine-in-time, left-most}
+use Rattle.round.proofs.Staying.{turn-sound, again-sound}
+use Rattle.round.proofs.Paying.{worth, turn-spares, leftOf, turn-pays, ends-pay}
+use Rattle.round.proofs.PayingPasses.{total, total-again, pass-pays}
+use Rattle.round.proofs.Accounts.{turn-signals}
+use Rattle.round.proofs.BookSteps.{few-steps}
+use Rattle.round.proofs.Passes.{round-ends}
+use Rattle.round.proofs.Lawful.{turn-laws}
+
+-- a routine that takes turns may still end
+abbrev mayEnd : ℕ → State → ℕ
+mayEnd = worth (λ r x. 1)
+
+total-ends : (L : List ℕ) (s : State) → total mayEnd L s ≤ length L
+unfolding sumOver
+total-ends [] s = omega arith
+total-ends (r ∷ rs) s =
+    let one : mayEnd r s ≤ 1 = by-test (λ (n : ℕ). n ≤ 1) (isGoing s r) (λ h. omega arith) (λ h. omega arith) in
+    omega (arith, total-ends rs s)
+
+module _ (book : List ℕ) (a : Accepted book) where
+  -- some routines have no more left than they have
+  pub total-left :
+      (set : ℕ → ℕ → Bool) (L : List ℕ) → All (λ r. r < routinesOf book) L → (s : State) →
+      total (worth (leftOf book a set)) L s ≤ stepsIn book set L
+  unfolding sumOver stepsIn
+  total-left set [] all s = omega arith
+  total-left set (r ∷ rs) all s =
+      let most = countBelow (set r) (stepCount book r) in
+      let own : worth (leftOf book a set) r s ≤ most =
+      by-test (λ (n : ℕ). n ≤ most) (isGoing s r) (λ h. left-most book a set r (all .0) _) (λ h. omega arith) in
+      omega (arith, total-left set rs (all .1) s)
+
+  -- what the signals and the ends of a round pay from
+  abbrev signals : ℕ → State → ℕ
+  signals = worth (leftOf book a (isSignalStep book))
+
+  abbrev budget : List ℕ → State → ℕ
+  budget L s = total signals L s + total mayEnd L s
+
+  turn-gives :
+      (r : ℕ) (s : State) → r < routinesOf book → Sound book s →
+      howMany givesSignal (turn book r s .told) + signals r (turn book r s .state) ≤ signals r s
+  turn-gives r s l ok = omega (arith, turn-signals book r s, turn-pays book a (isSignalStep book) r s l)
+
+  budget-again : (L : List ℕ) (s : State) → budget L (again s) ≡ budget L s
+  budget-again L s = omega (arith, total-again signals (λ q u. refl) L s, total-again mayEnd (λ q u. refl) L s)
+
+  pass-spends :
+      (L : List ℕ) → All (λ r. r < routinesOf book) L → (s : State) → Sound book s →
+      moves (pass book L s .told) + budget L (pass book L s .state) ≤ budget L s
+  pass-spends L all s ok =
+      let given =
+      pass-pays book (Sound book) givesSignal signals (turn-sound book a) again-sound turn-gives
+      (turn-spares book a (leftOf book a (isSignalStep book))) (λ q u. refl) L all s ok in
+      let over =
+      pass-pays book (Sound book) endsRoutine mayEnd (turn-sound book a) again-sound (λ r u l k. ends-pay book r u)
+      (turn-spares book a (λ q x. 1)) (λ q u. refl) L all s ok in
+      omega arith
+
+  module _ (g : Game) (z : Sized g) (f : Fits book g) where
+    few-listed : length (listedIn g) ≤ mostRoutines
+    few-listed =
+        let start = at-start-sound book g a z f in
+        let few = start .fits .lengthsInRange .0 in
+        omega (arith, entries-length (atStart g .game .listed) (fit-lists book (atStart g .game) (start .fits) .0) (start .sized .listed))
+
+    pub enough : Enough book g
+    unfolding atStart
+    enough =
+        let all = at-start-listed book g (a .laid .counts) z f in
+        let set = isSignalStep book in
+        let few = few-steps book a set (listedIn g) (listed-distinct book g a z f) all in
+        record {
+          turns = routine-in-time book a;
+          passes =
+              round-ends (turn-laws book a) (listedIn g) all (budget (listedIn g)) (pass-spends (listedIn g) all)
+              (budget-again (listedIn g)) mostPasses (atStart g) (at-start-sound book g a z f) refl refl
+              (omega (arith, few, total-left set (listedIn g) all (atStart g), total-ends (listedIn g) (atStart g), few-listed));
+        }

@@ -1,0 +1,138 @@
+-- A step's effect on what the book has leaves a sound state sound. By cases on the effect: a counter gets a content in range, a signal is
+-- given, and an order of a step changes the game as an order from outside does.
+use Prim.Native.Nat.{ℕ, _<_, _≤_}
+use mathlib.Core.Path.{_≡_, _∙_}
+use mathlib.Core.Bool.{Bool, true}
+use mathlib.Core.List.{List, [], _∷_, _++_}
+use native.Mathlib.Omega.{arith}
+use native.Mathlib.Decide.{ℕ-discrete, decLt}
+use lib.Dec.{ltb}
+use lib.ListN.{length, getD, set, length-set, List·getD-eq-default}
+use lib.Seq.{getD-set-same, getD-set-other}
+use lib.IntN.{ℤ, pos}
+use Rattle.book.specs.Layout.{mostCounters, countersOf}
+use Rattle.book.specs.Book.{countsOf}
+use Rattle.book.specs.Accepted.{Accepted}
+use Rattle.game.specs.declared.Game.{Game}
+use Rattle.game.specs.Game.{withCounter, Sized}
+use Rattle.game.specs.Fits.{Fits}
+use Rattle.game.proofs.Below.{by-test}
+use Rattle.orders.specs.Orders.{orderCount, obeyed}
+use Rattle.orders.proofs.Obeyed.{obeyed-fits, obeyed-sized}
+use Rattle.round.specs.declared.Effect.{Effect}
+use Rattle.round.specs.declared.Effect.the-variants.{Nothing, Mark, Put, Add, Give, GiveNumber, Start, Stop, Suspend, Resume}
+use Rattle.round.specs.State.{State, withGame, withNumbers}
+use Rattle.round.specs.Ticks.{mostNumbers, given, effectOn}
+use Rattle.round.proofs.Acts.{InRange, EachNumber, Ranged, Right, nothing, mark, put, add, give, giveNumber}
+use Rattle.round.proofs.Acts.{start, stop, suspend, resume}
+use Rattle.round.proofs.Sound.{Sound}
+
+-- what holds of the entry put in place n, and of the others, holds of each
+pub set-each :
+    {A : Type 0} (l : List A) (n : ℕ) (y d : A) (P : ℕ → A → Type 0) → n < length l → P n y →
+    ((i : ℕ) → (i ≡ n → ⊥) → P i (getD l i d)) → (i : ℕ) → P i (getD (set l n y) i d)
+set-each l n y d P h here others i =
+    elim (ℕ-discrete i n) [ yes e ↦ rw (e, getD-set-same l n y d h) here | no m ↦ rw (getD-set-other l n i y d m) (others i m) ]
+
+-- numbers of which P holds, and one more
+each-and : (P : ℤ → Type 0) (l : List (ℕ × ℤ)) (e : ℕ) (v : ℤ) → EachNumber P l → P v → EachNumber P (l ++ ((e, v) ∷ []))
+each-and P [] e v h p = (p, tt)
+each-and P (x ∷ xs) e v h p = (h .0, each-and P xs e v (h .1) p)
+
+module _ {book : List ℕ} {s : State} (h : Sound book s) where
+  -- counters in use are in range, the others are 0, and so is anything beyond the array
+  sound-ranged : Ranged s
+  sound-ranged =
+      let values = s .game .counters in
+      record {
+        counters =
+            λ c.
+            elim (decLt c (countersOf book)) [
+              | yes l ↦ h .fits .countersInRange c l
+              | no n ↦
+                  let none : getD values c (pos 0) ≡ pos 0 =
+                  elim (decLt c mostCounters) [
+                    | yes l ↦ h .fits .countersBeyond c (omega arith) l
+                    | no m ↦ List·getD-eq-default values (pos 0) (omega (arith, h .sized .counters))
+                  ]
+                  in
+                  rw none (record { le = tt }, record { le = tt })
+            ];
+        numbers = h .numbers;
+      }
+
+  -- another game
+  pub game-sound : (g : Game) → Fits book g → Sized g → Sound book (withGame s g)
+  game-sound g f z = record { fits = f; sized = z; present = h .present; endSignals = h .endSignals; numbers = h .numbers }
+
+  -- an order on what the book has
+  order-sound : (kind n : ℕ) → n < orderCount (countsOf book) kind → Sound book (withGame s (obeyed (s .game) kind n))
+  order-sound kind n below =
+      let g = s .game in
+      game-sound (obeyed g kind n) (obeyed-fits book g (h .fits) kind n (h .sized) below) (obeyed-sized g (h .sized) kind n)
+
+  -- a signal is given, and these are the numbers then
+  given-sound : (e : ℕ) (l : List (ℕ × ℤ)) (over : Bool) → EachNumber InRange l → Sound book (withNumbers (given s e) l over)
+  given-sound e l over numbers =
+      record {
+        fits = h .fits;
+        sized = h .sized;
+        present = length-set (s .present) e true ∙ h .present;
+        endSignals = h .endSignals;
+        numbers = numbers;
+      }
+
+  -- a counter of the book gets a content in range
+  counter-sound :
+      Accepted book → (c : ℕ) (v : ℤ) → c < countersOf book → InRange v → Sound book (withGame s (withCounter (s .game) c v))
+  counter-sound a c v below inside =
+      let f = h .fits in
+      let z = h .sized in
+      let l = s .game .counters in
+      let there : c < length l = omega (arith, z .counters, a .laid .counts .fewCounters) in
+      game-sound (withCounter (s .game) c v)
+      (record {
+        numbers = f .numbers;
+        routinesBeyond = f .routinesBeyond;
+        countersBeyond =
+            set-each l c v (pos 0) (λ i w. countersOf book ≤ i → i < mostCounters → w ≡ pos 0) there (λ k m. absurd (omega arith))
+            (λ i m. f .countersBeyond i);
+        signalsBeyond = f .signalsBeyond;
+        entriesBeyond = f .entriesBeyond;
+        stagesInRange = f .stagesInRange;
+        placesInRange = f .placesInRange;
+        countersInRange =
+            set-each l c v (pos 0) (λ i w. i < countersOf book → InRange w) there (λ k. inside) (λ i m. f .countersInRange i);
+        lengthsInRange = f .lengthsInRange;
+        entriesInRange = f .entriesInRange;
+        listedStages = f .listedStages;
+        unlistedStages = f .unlistedStages;
+        noneTwice = f .noneTwice;
+        startStages = f .startStages;
+        leftWhereBegun = f .leftWhereBegun;
+        leftElsewhere = f .leftElsewhere;
+      })
+      (record {
+        routines = z .routines;
+        counters = length-set l c v ∙ z .counters;
+        listed = z .listed;
+        starting = z .starting;
+        broadcast = z .broadcast;
+      })
+
+module _ (book : List ℕ) (a : Accepted book) where
+  pub effect-sound : (s : State) (e : Effect) → Right (countsOf book) s e → Sound book s → Sound book (effectOn e s)
+  unfolding effectOn obeyed
+  effect-sound s Nothing nothing h = h
+  effect-sound s (Mark n) mark h = h
+  effect-sound s (Put c v) (put below inside) h = counter-sound h a c v below (inside (sound-ranged h))
+  effect-sound s (Add c v) (add below inside) h = counter-sound h a c (v .sum) below inside
+  effect-sound s (Give e) (give below) h = given-sound h e (s .numbers) (s .tooMany) (h .numbers)
+  effect-sound s (GiveNumber e v) (giveNumber below inside) h =
+      by-test (Sound book) (ltb (length (s .numbers)) mostNumbers)
+      (λ room. given-sound h e _ (s .tooMany) (each-and InRange (s .numbers) e v (h .numbers) (inside (sound-ranged h))))
+      (λ full. given-sound h e (s .numbers) true (h .numbers))
+  effect-sound s (Start t) (start below) h = order-sound h 1 t below
+  effect-sound s (Stop t) (stop below) h = order-sound h 2 t below
+  effect-sound s (Suspend t) (suspend below) h = order-sound h 3 t below
+  effect-sound s (Resume t) (resume below) h = order-sound h 4 t below

@@ -1,0 +1,169 @@
+-- Routines among some: of two lists joined, of those that pass a test, and of a list's entries. So a list to which different routines of
+-- the book are appended, from none on, is right: its entries are those routines, and nothing stands behind its length.
+use Prim.Native.Nat.{ℕ, zero, suc, _+_, _<_, _≤_}
+use mathlib.Core.Path.{_≡_, refl, sym, _∙_, ap, subst}
+use mathlib.Core.Bool.{Bool, true, true≢false}
+use mathlib.Core.List.{List, [], _∷_, _++_}
+use mathlib.Core.Logic.{_⊎_, inl, inr, ⊎-elim}
+use native.Mathlib.Nat.{add-zero}
+use native.Mathlib.Omega.{arith}
+use native.Mathlib.Decide.{ℕ-discrete}
+use borrow.Author.Tests.{lt-ltb}
+use lib.ListN.{length, getD, length-set, getD-replicate}
+use lib.Seq.{getD-set-other}
+use Rattle.game.specs.declared.Line.{Line}
+use Rattle.game.specs.Lines.{mostEntries, empty, itemAt, entriesOf, appended}
+use Rattle.game.specs.Fits.{In}
+use Rattle.game.proofs.Below.{by-test}
+use Rattle.game.proofs.Lists.{LineRight}
+use Rattle.round.specs.Actions.{kept}
+use Rattle.round.proofs.Along.{All, among-all, Distinct}
+use Rattle.round.proofs.Entries.{longer, appended-entries, item-at, entries-length}
+use Rattle.round.specs.History.{Among}
+
+pub among-or : (r : ℕ) (rs : List ℕ) → Among r rs ⊎ (Among r rs → ⊥)
+among-or r [] = inr (λ h. h)
+among-or r (q ∷ qs) =
+    elim (ℕ-discrete r q) [
+      | yes e ↦ inl (inl e)
+      | no n ↦ ⊎-elim (λ h. inl (inr h)) (λ m. inr (λ h. ⊎-elim n m h)) (among-or r qs)
+    ]
+
+-- the routine at a place is among them, and one among them is at a place
+among-at : (rs : List ℕ) (i : ℕ) → i < length rs → Among (getD rs i 0) rs
+among-at [] i h = absurd (omega arith)
+among-at (r ∷ rs) zero h = inl refl
+among-at (r ∷ rs) (suc i) h = inr (among-at rs i (omega arith))
+
+among-place : (r : ℕ) (rs : List ℕ) → Among r rs → (i : ℕ) × (i < length rs) × (getD rs i 0 ≡ r)
+among-place r [] h = absurd h
+among-place r (q ∷ qs) (inl e) = (0, omega arith, sym e)
+among-place r (q ∷ qs) (inr h) = let (i, l, e) = among-place r qs h in (suc i, omega arith, e)
+
+-- two lists, one after the other
+pub among-first : (r : ℕ) (a b : List ℕ) → Among r a → Among r (a ++ b)
+among-first r [] b h = absurd h
+among-first r (q ∷ qs) b (inl e) = inl e
+among-first r (q ∷ qs) b (inr h) = inr (among-first r qs b h)
+
+pub among-second : (r : ℕ) (a b : List ℕ) → Among r b → Among r (a ++ b)
+among-second r [] b h = h
+among-second r (q ∷ qs) b h = inr (among-second r qs b h)
+
+among-either : (r : ℕ) (a b : List ℕ) → Among r (a ++ b) → Among r a ⊎ Among r b
+among-either r [] b h = inr h
+among-either r (q ∷ qs) b (inl e) = inl (inl e)
+among-either r (q ∷ qs) b (inr h) = ⊎-elim (λ k. inl (inr k)) inr (among-either r qs b h)
+
+pub distinct-joined :
+    (a b : List ℕ) → Distinct a → Distinct b → ((r : ℕ) → Among r a → Among r b → ⊥) → Distinct (a ++ b)
+distinct-joined [] b d e apart = e
+distinct-joined (r ∷ rs) b d e apart = (
+  λ h. ⊎-elim (d .0) (apart r (inl refl)) (among-either r rs b h),
+  distinct-joined rs b (d .1) e (λ q h. apart q (inr h)),
+)
+
+-- those that pass a test
+module _ (test : ℕ → Bool) where
+  pub among-kept : (r : ℕ) (rs : List ℕ) → test r ≡ true → Among r rs → Among r (kept test rs)
+  unfolding kept
+  among-kept r [] t h = absurd h
+  among-kept r (q ∷ qs) t (inl e) =
+      by-test (Among r) (test q) (λ p. inl e) (λ p. absurd (true≢false (sym t ∙ ap test e ∙ p)))
+  among-kept r (q ∷ qs) t (inr h) =
+      let rest = among-kept r qs t h in by-test (Among r) (test q) (λ p. inr rest) (λ p. rest)
+
+  among-before : (r : ℕ) (rs : List ℕ) → Among r (kept test rs) → Among r rs
+  unfolding kept
+  among-before r [] = λ h. h
+  among-before r (q ∷ qs) =
+      by-test (λ l. Among r l → Among r (q ∷ qs)) (test q) (λ p h. ⊎-elim inl (λ k. inr (among-before r qs k)) h)
+      (λ p h. inr (among-before r qs h))
+
+  pub distinct-kept : (rs : List ℕ) → Distinct rs → Distinct (kept test rs)
+  unfolding kept
+  distinct-kept [] d = tt
+  distinct-kept (r ∷ rs) d =
+      let rest = distinct-kept rs (d .1) in
+      by-test Distinct (test r) (λ p. (λ h. d .0 (among-before r rs h), rest)) (λ p. rest)
+
+-- no routine twice, by places
+distinct-places : (rs : List ℕ) → Distinct rs → (i j : ℕ) → i < j → j < length rs → getD rs i 0 ≡ getD rs j 0 → ⊥
+distinct-places [] d i j l h e = omega arith
+distinct-places (r ∷ rs) d i zero l h e = omega arith
+distinct-places (r ∷ rs) d zero (suc j) l h e = d .0 (rw e (among-at rs j (omega arith)))
+distinct-places (r ∷ rs) d (suc i) (suc j) l h e = distinct-places rs (d .1) i j (omega arith) (omega arith) e
+
+places-distinct : (rs : List ℕ) → ((i j : ℕ) → i < j → j < length rs → getD rs i 0 ≡ getD rs j 0 → ⊥) → Distinct rs
+places-distinct [] once = tt
+places-distinct (r ∷ rs) once = (
+  λ h. let (i, l, e) = among-place r rs h in once 0 (suc i) (omega arith) (omega arith) (sym e),
+  places-distinct rs (λ i j l h. once (suc i) (suc j) (omega arith) (omega arith)),
+)
+
+-- the entries of a list
+module _ (l : Line) {routines : ℕ} (t : LineRight l routines) (z : length (l .items) ≡ mostEntries) where
+  pub in-among : (r : ℕ) → In l r → Among r (entriesOf l)
+  in-among r (i, h, e) =
+      let k : i < length (entriesOf l) = omega (arith, entries-length l t z) in
+      subst (λ q. Among q (entriesOf l)) (item-at l (t .short) i h ∙ e) (among-at (entriesOf l) i k)
+
+  pub among-in : (r : ℕ) → Among r (entriesOf l) → In l r
+  among-in r h =
+      let (i, k, e) = among-place r (entriesOf l) h in
+      let m : i < l .len = omega (arith, entries-length l t z) in
+      (i, m, sym (item-at l (t .short) i m) ∙ e)
+
+  pub entries-distinct : Distinct (entriesOf l)
+  entries-distinct =
+      places-distinct (entriesOf l) (λ i j h k e.
+      let m : j < l .len = omega (arith, entries-length l t z) in
+      t .once i j h m (sym (item-at l (t .short) i (omega arith)) ∙ e ∙ item-at l (t .short) j m))
+
+-- a list with n entries and nothing behind them
+record Filled (l : Line) (n : ℕ) : Type 0 where
+  len : l .len ≡ n
+  sized : length (l .items) ≡ mostEntries
+  beyond : (i : ℕ) → n ≤ i → i < mostEntries → itemAt l i ≡ 0
+
+appended-filled : (l : Line) (n : ℕ) (rs : List ℕ) → n + length rs ≤ mostEntries → Filled l n → Filled (appended l rs) (n + length rs)
+unfolding appended
+appended-filled l n [] h a = rw add-zero a
+appended-filled l n (r ∷ rs) h a =
+    let more : Filled (longer l r) (n + 1) =
+    record {
+      len = omega (arith, a .len);
+      sized = length-set (l .items) (l .len) r ∙ a .sized;
+      beyond =
+          λ i k m. getD-set-other (l .items) (l .len) i r 0 (λ e. absurd (omega (arith, a .len))) ∙ a .beyond i (omega arith) m;
+    }
+    in
+    let e : n + length (r ∷ rs) ≡ (n + 1) + length rs = omega arith in
+    rw (e, lt-ltb (l .len) mostEntries (omega (arith, a .len))) (appended-filled (longer l r) (n + 1) rs (omega arith) more)
+
+-- different routines of the book, appended to none
+module _ (rs : List ℕ) (short : length rs ≤ mostEntries) where
+  filled : Filled (appended empty rs) (0 + length rs)
+  filled =
+      appended-filled empty 0 rs (omega arith)
+      (record { len = refl; sized = refl; beyond = λ i h k. getD-replicate mostEntries i 0 0 k })
+
+  pub appended-sized : length (appended empty rs .items) ≡ mostEntries
+  appended-sized = filled .sized
+
+  entries-same : entriesOf (appended empty rs) ≡ rs
+  entries-same = appended-entries empty rs refl (omega arith)
+
+  pub appended-right : {routines : ℕ} → All (λ r. r < routines) rs → Distinct rs → LineRight (appended empty rs) routines
+  appended-right {routines} below d =
+      let l = appended empty rs in
+      let len : l .len ≡ length rs = omega (arith, filled .len) in
+      let at : (i : ℕ) → i < l .len → itemAt l i ≡ getD rs i 0 =
+      λ i h. sym (item-at l (omega arith) i h) ∙ ap (λ qs. getD qs i 0) entries-same
+      in
+      record {
+        short = omega arith;
+        entries = λ i h. rw (at i h) (among-all (λ r. r < routines) (getD rs i 0) rs below (among-at rs i (omega arith)));
+        beyond = λ i h. filled .beyond i (omega arith);
+        once = λ i j h k e. distinct-places rs d i j h (omega arith) (sym (at i (omega arith)) ∙ e ∙ at j k);
+      }

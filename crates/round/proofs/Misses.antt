@@ -1,0 +1,84 @@
+-- A round's history tells a miss for each turn that came to a step whose thing was missing, and no other. The steps of a turn that went on
+-- tell none, and the last one tells one exactly where it halts the turn for that reason; then turn by turn and pass by pass.
+use Prim.Native.Nat.{ℕ, zero, suc, _+_, _<_}
+use mathlib.Core.Path.{_≡_, refl, ap, _∙_}
+use mathlib.Core.List.{List, [], _∷_, _++_}
+use native.Mathlib.Omega.{arith}
+use Rattle.kinds.specs.declared.Counts.{Counts}
+use Rattle.book.specs.Layout.{routinesOf}
+use Rattle.book.specs.Accepted.{Accepted}
+use Rattle.game.specs.declared.Game.{Game}
+use Rattle.game.specs.Game.{Sized}
+use Rattle.game.specs.Fits.{Fits}
+use Rattle.game.proofs.Below.{by-test}
+use Rattle.round.specs.declared.Ending.{Ending}
+use Rattle.round.specs.declared.Ending.the-variants.{Ended, Rested, Missed, Continued}
+use Rattle.round.specs.declared.Position.{Position}
+use Rattle.round.specs.State.{State, Happening}
+use Rattle.round.specs.History.{howMany}
+use Rattle.round.specs.Actions.{atStart}
+use Rattle.round.specs.Rounds.{Turn, passedOver, took, Played, followedBy, allDone, again, mostPasses, listedIn, turn}
+use Rattle.round.specs.Rounds.{pass, Round, instant, round, historyOf}
+use Rattle.round.specs.Whole.{isMiss, missesOf}
+use Rattle.round.proofs.Acts.{Stops, ends, rests, misses, continues}
+use Rattle.round.proofs.Along.{All}
+use Rattle.round.proofs.Actions.{at-start-listed}
+use Rattle.round.proofs.Histories.{many-append}
+use Rattle.round.proofs.AfterTurn.{turn-by}
+use Rattle.round.proofs.Outcomes.{turn-shape}
+
+misses-append : (a b : List Turn) → missesOf (a ++ b) ≡ missesOf a + missesOf b
+unfolding missesOf
+misses-append [] b = omega arith
+misses-append (passedOver ∷ a) b = misses-append a b
+misses-append (took Ended ∷ a) b = misses-append a b
+misses-append (took Rested ∷ a) b = misses-append a b
+misses-append (took Missed ∷ a) b = omega (arith, misses-append a b)
+misses-append (took Continued ∷ a) b = omega (arith, misses-append a b)
+
+-- some turns and what they told
+abbrev TellsMisses : Played → Type 0
+TellsMisses p = howMany isMiss (p .told) ≡ missesOf (p .turns)
+
+misses-both : (a b : Played) → TellsMisses a → TellsMisses b → TellsMisses (followedBy a b)
+misses-both a b h k = omega (arith, many-append isMiss (a .told) (b .told), misses-append (a .turns) (b .turns))
+
+-- what the last step of a turn tells
+stops-miss :
+    {counts : Counts} {r : ℕ} {steps : List ℕ} {x : Position} {s : State} {how : Ending} {y : Position} {told : List Happening} →
+    Stops counts r steps x s how y told → howMany isMiss told ≡ missesOf (took how ∷ [])
+unfolding howMany missesOf
+stops-miss ends = refl
+stops-miss rests = refl
+stops-miss (misses a m c) = refl
+stops-miss (continues a m c) = refl
+
+module _ (book : List ℕ) (a : Accepted book) where
+  turn-misses : (r : ℕ) → r < routinesOf book → (s : State) → TellsMisses (turn book r s)
+  unfolding howMany missesOf
+  turn-misses r l s =
+      let shape = turn-shape book a r s l in
+      let told = ap (howMany isMiss) (shape .history) ∙ many-append isMiss (shape .before) (shape .lastTold) in
+      turn-by book r s TellsMisses (λ h. refl) (λ h. omega (arith, shape .noMiss, stops-miss (shape .stops)))
+
+  pass-misses : (rs : List ℕ) → All (λ r. r < routinesOf book) rs → (s : State) → TellsMisses (pass book rs s)
+  unfolding pass howMany missesOf
+  pass-misses [] l s = refl
+  pass-misses (r ∷ rs) l s =
+      let first = turn book r s in
+      misses-both first (pass book rs (first .state)) (turn-misses r (l .0) s) (pass-misses rs (l .1) (first .state))
+
+  instant-misses :
+      (n : ℕ) (rs : List ℕ) → All (λ r. r < routinesOf book) rs → (s : State) → TellsMisses (instant book n rs s .played)
+  unfolding instant howMany missesOf
+  instant-misses zero rs l s = refl
+  instant-misses (suc n) rs l s =
+      let first = pass book rs s in
+      let others = instant book n rs (again (first .state)) in
+      by-test (λ (d : Round). TellsMisses (d .played)) (allDone (first .turns)) (λ h. pass-misses rs l s)
+      (λ h. misses-both first (others .played) (pass-misses rs l s) (instant-misses n rs l (again (first .state))))
+
+  pub misses-told :
+      (g : Game) → Sized g → Fits book g → howMany isMiss (historyOf book g) ≡ missesOf (round book g .played .turns)
+  unfolding round
+  misses-told g z f = instant-misses mostPasses (listedIn g) (at-start-listed book g (a .laid .counts) z f) (atStart g)

@@ -1,0 +1,71 @@
+-- No step is completed twice in one round by one routine: a listed routine pays for each step of a set that it completes with one of those
+-- that it has left, and at the round's start it has no more left than it has. Signals, numbers and marks are told by steps of their own.
+use Prim.Native.Nat.{ℕ, _≤_, _<_}
+use mathlib.Core.Path.{refl}
+use mathlib.Core.Bool.{Bool}
+use mathlib.Core.List.{List}
+use native.Mathlib.Omega.{arith}
+use lib.Dec.{eqb}
+use lib.ListN.{length}
+use Rattle.book.specs.Layout.{routinesOf}
+use Rattle.book.specs.Accepted.{Accepted}
+use Rattle.game.specs.declared.Game.{Game}
+use Rattle.game.specs.Game.{Sized}
+use Rattle.game.specs.Fits.{Fits}
+use Rattle.round.specs.History.{stepsIn, howMany}
+use Rattle.round.specs.Actions.{atStart}
+use Rattle.round.specs.Rounds.{mostPasses, listedIn, round, historyOf}
+use Rattle.round.specs.Answers.{opMark, marksIn}
+use Rattle.round.specs.Demand.{isSignalStep, givesSignal}
+use Rattle.round.specs.Completed.{completes, theStep, isMarkStep, isAddition, CompletedOnce}
+use Rattle.round.proofs.Along.{All, Distinct}
+use Rattle.round.proofs.Sound.{Sound}
+use Rattle.round.proofs.Actions.{at-start-listed}
+use Rattle.round.proofs.Starting.{at-start-sound, listed-distinct}
+use Rattle.round.proofs.Staying.{turn-sound, again-sound}
+use Rattle.round.proofs.Paying.{worth, leftOf, turn-pays, turn-spares}
+use Rattle.round.proofs.PayingPasses.{instant-pays}
+use Rattle.round.proofs.Accounts.{numbers-few, signals-completed, marks-completed}
+use Rattle.round.proofs.BookSteps.{steps-in-book, few-steps}
+use Rattle.round.proofs.OneStep.{one-of-distinct}
+use Rattle.round.proofs.Enough.{total-left}
+
+module _ (book : List ℕ) (a : Accepted book) (g : Game) (z : Sized g) (f : Fits book g) where
+  below : All (λ r. r < routinesOf book) (listedIn g)
+  below = at-start-listed book g (a .laid .counts) z f
+
+  distinct : Distinct (listedIn g)
+  distinct = listed-distinct book g a z f
+
+  each-once : (set : ℕ → ℕ → Bool) → howMany (completes set) (historyOf book g) ≤ stepsIn book set (listedIn g)
+  unfolding round
+  each-once set =
+      let paid =
+      instant-pays book (Sound book) (completes set) (worth (leftOf book a set)) (turn-sound book a) again-sound
+      (λ r s l ok. turn-pays book a set r s l) (turn-spares book a (leftOf book a set)) (λ q s. refl) mostPasses (listedIn g) below
+      (atStart g) (at-start-sound book g a z f) in
+      omega (arith, total-left book a set (listedIn g) below (atStart g))
+
+  signals-once : howMany givesSignal (historyOf book g) ≤ stepsIn book (isSignalStep book) (listedIn g)
+  signals-once = omega (arith, signals-completed book g, each-once (isSignalStep book))
+
+  marks-once : length (marksIn (historyOf book g)) ≤ stepsIn book (isMarkStep book) (listedIn g)
+  marks-once = omega (arith, marks-completed book g, each-once (isMarkStep book))
+
+  pub completed-once : CompletedOnce book g
+  completed-once =
+      record {
+        once = each-once;
+        neverTwice = λ r p. omega (arith, each-once (theStep r p), one-of-distinct r p book (listedIn g) distinct);
+        signals = signals-once;
+        marks = marks-once;
+        space = omega (arith, marks-once, steps-in-book book a (λ op. eqb op opMark) (listedIn g) distinct below);
+        numbers =
+            omega (
+              arith,
+              numbers-few (historyOf book g),
+              signals-once,
+              few-steps book a (isSignalStep book) (listedIn g) distinct below,
+            );
+        additions = omega (arith, each-once (isAddition book), few-steps book a (isAddition book) (listedIn g) distinct below);
+      }

@@ -1,0 +1,84 @@
+-- How a turn that is taken comes out: its last step says why it ended and where its routine stands behind it. Where it is to be continued,
+-- that step found its thing missing; where it is not, no step found anything missing, unless the round is being closed.
+use Prim.Native.Nat.{ℕ, _<_}
+use mathlib.Core.Path.{_≡_, sym, ap, _∙_, subst}
+use mathlib.Core.Bool.{true, false, not}
+use mathlib.Core.List.{List, [], _∷_, _++_}
+use borrow.Author.Tests.{not-true, not-false}
+use Rattle.kinds.specs.Steps.{stepAt}
+use Rattle.book.specs.Layout.{routinesOf}
+use Rattle.book.specs.Book.{countsOf, routineSteps}
+use Rattle.book.specs.Accepted.{Accepted}
+use Rattle.game.specs.Game.{routineAt}
+use Rattle.round.specs.declared.Ending.{Ending}
+use Rattle.round.specs.declared.Position.{Position}
+use Rattle.round.specs.State.{State}
+use Rattle.round.specs.History.{howMany}
+use Rattle.round.specs.Actions.{positionOf}
+use Rattle.round.specs.Rounds.{Ticks, mostTicks, afterTurn, took, isDone, ticksOf, turn}
+use Rattle.round.specs.Whole.{isMiss}
+use Rattle.round.proofs.Histories.{none-of-both}
+use Rattle.round.proofs.Effects.{Untouched}
+use Rattle.round.proofs.Acts.{Asks}
+use Rattle.round.proofs.TurnLaws.{isGoing, ToBeContinued}
+use Rattle.round.proofs.Shaping.{Shape, stops-continued, stops-calm, shaped}
+use Rattle.round.proofs.Lasting.{routine-in-time}
+use Rattle.round.proofs.Coming.{turn-untouched}
+use Rattle.round.proofs.AfterTurn.{turn-taken, position-after, after-going, after-missing}
+
+module _ (book : List ℕ) (a : Accepted book) where
+  pub turn-shape : (r : ℕ) (s : State) → r < routinesOf book → Shape (countsOf book) r (routineSteps book r) (ticksOf book r s)
+  turn-shape r s l =
+      let x = positionOf (routineAt (s .game) r) in
+      let steps = routineSteps book r in
+      shaped (countsOf book) r steps (mostTicks steps) x s (routine-in-time book a r l x s)
+
+  module _ (r : ℕ) (s : State) (l : r < routinesOf book) (going : isGoing s r ≡ true) where
+    abbrev steps : List ℕ
+    steps = routineSteps book r
+
+    abbrev all : Ticks
+    all = ticksOf book r s
+
+    shape : Shape (countsOf book) r steps all
+    shape = turn-shape r s l
+
+    untouched : Untouched s (all .state)
+    untouched = turn-untouched book r s
+
+    out : isGoing (afterTurn r all) r ≡ not (isDone (took (all .ending)))
+    out = after-going r s all (untouched .seats r) going
+
+    pub turn-out :
+        (h : Ending) × (turn book r s .turns ≡ took h ∷ []) × (isGoing (turn book r s .state) r ≡ not (isDone (took h)))
+    turn-out = let e = turn-taken book r s going in (all .ending, ap (λ p. p .turns) e, ap (λ p. isGoing (p .state) r) e ∙ out)
+
+    pub turn-continues :
+        isGoing (turn book r s .state) r ≡ true →
+        (s .eoi ≡ false) × ToBeContinued book r (turn book r s .state) (turn book r s .told)
+    turn-continues =
+        rw (turn-taken book r s going) (λ h.
+        let stop = stops-continued (countsOf book) r steps (shape .stops) (not-true _ (sym out ∙ h)) in
+        let (thing, asks, missed, unclosed, how, position, told) = stop in
+        let there = position-after r s all (untouched .seats r) going ∙ position in (
+          sym (untouched .eoi) ∙ unclosed,
+          record {
+            place = shape .last .place;
+            thing = thing;
+            before = shape .before;
+            waits =
+                record {
+                  place = ap (λ (y : Position). y .place) there;
+                  asks = subst (λ (y : Position). Asks y (stepAt (countsOf book) steps (y .place)) thing) (sym there) asks;
+                };
+            missed = after-missing r s all (untouched .seats r) going how thing missed;
+            history = shape .history ∙ ap (λ l. shape .before ++ l) told;
+            calm = shape .noMiss;
+          },
+        ))
+
+    pub turn-calm : isGoing (turn book r s .state) r ≡ false → s .eoi ≡ false → howMany isMiss (turn book r s .told) ≡ 0
+    turn-calm =
+        rw (turn-taken book r s going) (λ h e.
+        let last = stops-calm (countsOf book) r steps (shape .stops) (not-false _ (sym out ∙ h)) (untouched .eoi ∙ e) in
+        ap (howMany isMiss) (shape .history) ∙ none-of-both isMiss (shape .before) (shape .lastTold) (shape .noMiss) last)

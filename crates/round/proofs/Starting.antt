@@ -1,0 +1,241 @@
+-- The state behind the eight actions is sound, and the playing order has each of its routines once. Those to start are in stage 0, so they
+-- are not listed yet; the routines that stay listed come to stage 1, and of the others none is left in stage 1 or 2: one that was is to
+-- stop, and comes to stage 4.
+use Prim.Native.Nat.{ℕ, _<_, _≤_}
+use mathlib.Core.Path.{_≡_, refl, sym, _∙_, ap, subst}
+use mathlib.Core.Bool.{Bool, true, false, _&&_, _||_, not}
+use mathlib.Core.List.{List}
+use mathlib.Core.Logic.{_⊎_, inl, inr, ⊎-elim}
+use native.Mathlib.Omega.{arith}
+use lib.Dec.{eqb}
+use lib.ListN.{length, getD, length-map, getD-replicate, length-replicate, List·getD-map}
+use Rattle.book.specs.Layout.{mostRoutines, mostSignals, routinesOf}
+use Rattle.book.specs.Accepted.{CountsInRange, Accepted}
+use Rattle.game.specs.declared.Routine.{Routine}
+use Rattle.game.specs.declared.Game.{Game}
+use Rattle.game.specs.Lines.{mostEntries, entriesOf}
+use Rattle.game.specs.Game.{continuing, rested, ended, stopped, blank, routineAt, Sized}
+use Rattle.game.specs.Fits.{In, Fits}
+use Rattle.game.proofs.Lists.{LineRight}
+use Rattle.game.proofs.Decides.{fit-lists}
+use Rattle.round.specs.declared.Position.{Position}
+use Rattle.round.specs.Actions.{kept, each, inStage1, inStage4, getsStopped, staysListed, withoutOrders, atStart}
+use Rattle.round.proofs.Along.{All, among-all, Distinct}
+use Rattle.round.proofs.Sound.{Sound}
+use Rattle.round.proofs.Entries.{all-kept, kept-short, entries-below, apart, joined-entries, joined-below, joined-short}
+use Rattle.round.proofs.Actions.{each-length, each-other, each-given, started, stopping, order, startsOf, joinedOf}
+use Rattle.round.proofs.Actions.{at-start-routines, at-start-positions, at-start-entries}
+use Rattle.round.proofs.Listing.{among-or, among-first, among-second, distinct-joined, among-kept, distinct-kept}
+use Rattle.round.proofs.Listing.{in-among, among-in, entries-distinct, appended-sized, appended-right}
+use Rattle.round.specs.History.{Among}
+
+-- stage 1 or 2
+abbrev UnderWay : ℕ → Type 0
+UnderWay k = (k ≡ continuing) ⊎ (k ≡ rested)
+
+-- any other stage
+abbrev Idle : ℕ → Type 0
+Idle k = (k ≤ stopped) × (UnderWay k → ⊥)
+
+-- a routine under way is stopped or stays listed
+stops-or-stays :
+    (stopping : Bool) (k : ℕ) → UnderWay k →
+    ((stopping && (eqb k continuing || eqb k rested)) ≡ true) ⊎ ((not stopping && not (eqb k ended)) ≡ true)
+stops-or-stays true k (inl e) = inl (rw e)
+stops-or-stays true k (inr e) = inl (rw e)
+stops-or-stays false k (inl e) = inr (rw e)
+stops-or-stays false k (inr e) = inr (rw e)
+
+module _ (g : Game) where
+  -- the routines once action 1 is done, those listed then that stop and that stay listed, and the routines once action 6 is done
+  abbrev first : List Routine
+  first = started (g .routines) (startsOf g)
+
+  abbrev stops : ℕ → Bool
+  stops r = getsStopped (getD first r blank)
+
+  abbrev stays : ℕ → Bool
+  stays r = staysListed (getD first r blank)
+
+  abbrev leaving : List ℕ
+  leaving = stopping (g .routines) (startsOf g) (joinedOf g)
+
+  abbrev staying : List ℕ
+  staying = order (g .routines) (startsOf g) (joinedOf g)
+
+  abbrev halted : List Routine
+  halted = each inStage4 leaving first
+
+  abbrev last : List Routine
+  last = each inStage1 staying halted
+
+  routine-behind : (r : ℕ) → routineAt (atStart g .game) r ≡ withoutOrders (getD last r blank)
+  unfolding atStart
+  routine-behind r = List·getD-map withoutOrders last r blank
+
+  abbrev stageBehind : ℕ → ℕ
+  stageBehind r = routineAt (atStart g .game) r .stage
+
+  stage-behind : (r : ℕ) → stageBehind r ≡ getD last r blank .stage
+  stage-behind r = ap (λ (x : Routine). x .stage) (routine-behind r)
+
+module _ (book : List ℕ) (g : Game) (range : CountsInRange book) (z : Sized g) (f : Fits book g) where
+  first-long : (r : ℕ) → r < routinesOf book → r < length (first g)
+  first-long r l = omega (arith, each-length inStage1 (startsOf g) (g .routines), z .routines, range .fewRoutines)
+
+  joined-distinct : Distinct (joinedOf g)
+  joined-distinct =
+      let (l, s) = fit-lists book g f in
+      rw (joined-entries book g range z f)
+      (distinct-joined (entriesOf (g .listed)) (startsOf g) (entries-distinct (g .listed) l (z .listed))
+      (entries-distinct (g .starting) s (z .starting)) (λ r h k.
+      let (i, m, d) = among-in (g .listed) l (z .listed) r h in
+      let (j, n, e) = among-in (g .starting) s (z .starting) r k in
+      apart book g range z f i j m n (d ∙ sym e)))
+
+  -- one under way once action 1 is done is listed then
+  under-way-joined : (r : ℕ) → r < routinesOf book → UnderWay (getD (first g) r blank .stage) → Among r (joinedOf g)
+  under-way-joined r l way =
+      let listed = entriesOf (g .listed) in
+      rw (joined-entries book g range z f)
+      (⊎-elim (λ h. among-second r listed (startsOf g) h)
+      (λ n.
+      let same = each-other inStage1 (startsOf g) (g .routines) r n in
+      let before : UnderWay (routineAt g r .stage) = subst (λ (x : Routine). UnderWay (x .stage)) same way in
+      among-first r listed (startsOf g) (in-among (g .listed) (fit-lists book g f .0) (z .listed) r (f .listedStages r l before)))
+      (among-or r (startsOf g)))
+
+  first-range : (r : ℕ) → r < routinesOf book → getD (first g) r blank .stage ≤ stopped
+  first-range r l =
+      let long : r < length (g .routines) = omega (arith, z .routines, range .fewRoutines) in
+      ⊎-elim (λ h. omega (arith, each-given inStage1 continuing (λ x. refl) (startsOf g) (g .routines) r long h))
+      (λ n. rw (each-other inStage1 (startsOf g) (g .routines) r n) (f .stagesInRange r l))
+      (among-or r (startsOf g))
+
+  -- the stage of one that stays listed, and of any other
+  staying-stage : (r : ℕ) → r < routinesOf book → Among r (staying g) → stageBehind g r ≡ continuing
+  staying-stage r l h =
+      let long : r < length (halted g) = omega (arith, each-length inStage4 (leaving g) (first g), first-long r l) in
+      stage-behind g r ∙ each-given inStage1 continuing (λ x. refl) (staying g) (halted g) r long h
+
+  other-stage : (r : ℕ) → r < routinesOf book → (Among r (staying g) → ⊥) → Idle (stageBehind g r)
+  other-stage r l n =
+      let x = getD (first g) r blank in
+      rw (stage-behind g r, each-other inStage1 (staying g) (halted g) r n)
+      (⊎-elim
+      (λ h.
+      let four = each-given inStage4 stopped (λ x. refl) (leaving g) (first g) r (first-long r l) h in
+      rw four (omega arith, ⊎-elim (λ e. omega arith) (λ e. omega arith)))
+      (λ m.
+      rw (each-other inStage4 (leaving g) (first g) r m) (
+        first-range r l,
+        λ way.
+            let inside = under-way-joined r l way in
+            ⊎-elim (λ t. m (among-kept (stops g) r (joinedOf g) t inside)) (λ t. n (among-kept (stays g) r (joinedOf g) t inside))
+            (stops-or-stays (x .stopping) (x .stage) way),
+      ))
+      (among-or r (leaving g)))
+
+  -- one beyond R is in no list, and stays blank
+  blank-behind : (r : ℕ) → routinesOf book ≤ r → r < mostRoutines → routineAt (atStart g .game) r ≡ blank
+  blank-behind r l m =
+      let Below : ℕ → Type 0 = λ q. q < routinesOf book in
+      let none : (rs : List ℕ) → All Below rs → Among r rs → ⊥ = λ rs below h. omega (arith, among-all Below r rs below h) in
+      let none-kept : (test : ℕ → Bool) → Among r (kept test (joinedOf g)) → ⊥ =
+      λ test. none (kept test (joinedOf g)) (all-kept Below test (joinedOf g) (joined-below book g range z f))
+      in
+      let starts = entries-below (g .starting) (fit-lists book g f .1) (z .starting) in
+      routine-behind g r ∙
+      ap withoutOrders
+      (each-other inStage1 (staying g) (halted g) r (none-kept (stays g)) ∙
+      each-other inStage4 (leaving g) (first g) r (none-kept (stops g)) ∙
+      each-other inStage1 (startsOf g) (g .routines) r (none (startsOf g) starts) ∙
+      f .routinesBeyond r l m)
+
+  staying-short : length (staying g) ≤ mostEntries
+  staying-short = omega (arith, kept-short (stays g) (joinedOf g), joined-short book g range z f)
+
+  listed-right : LineRight (atStart g .game .listed) (routinesOf book)
+  unfolding atStart
+  listed-right =
+      appended-right (staying g) staying-short
+      (all-kept (λ q. q < routinesOf book) (stays g) (joinedOf g) (joined-below book g range z f))
+      (distinct-kept (stays g) (joinedOf g) joined-distinct)
+
+  at-start-sized : Sized (atStart g .game)
+  unfolding atStart
+  at-start-sized =
+      record {
+        routines = at-start-routines g ∙ z .routines;
+        counters = z .counters;
+        listed = appended-sized (staying g) staying-short;
+        starting = refl;
+        broadcast = length-replicate mostSignals false;
+      }
+
+module _ (book : List ℕ) (g : Game) (a : Accepted book) (z : Sized g) (f : Fits book g) where
+  abbrev range : CountsInRange book
+  range = a .laid .counts
+
+  pub listed-distinct : Distinct (entriesOf (atStart g .game .listed))
+  listed-distinct =
+      entries-distinct (atStart g .game .listed) (listed-right book g range z f) (at-start-sized book g range z f .listed)
+
+  -- in the playing order, and among its entries
+  listed-among : (r : ℕ) → In (atStart g .game .listed) r → Among r (entriesOf (atStart g .game .listed))
+  listed-among = in-among (atStart g .game .listed) (listed-right book g range z f) (at-start-sized book g range z f .listed)
+
+  pub among-listed : (r : ℕ) → Among r (entriesOf (atStart g .game .listed)) → In (atStart g .game .listed) r
+  among-listed = among-in (atStart g .game .listed) (listed-right book g range z f) (at-start-sized book g range z f .listed)
+
+  pub listed-stage : (r : ℕ) → In (atStart g .game .listed) r → routineAt (atStart g .game) r .stage ≡ continuing
+  listed-stage r (i, h, e) =
+      let below : r < routinesOf book = rw e at (listed-right book g range z f .entries i h) in
+      staying-stage book g range z f r below (rw (at-start-entries book g range z f) at (listed-among r (i, h, e)))
+
+  at-start-fits : Fits book (atStart g .game)
+  unfolding atStart
+  at-start-fits =
+      let same = at-start-positions g in
+      let after : ℕ → Routine = routineAt (atStart g .game) in
+      let place : (r : ℕ) → after r .place ≡ routineAt g r .place = λ r. ap (λ (x : Position). x .place) (same r) in
+      let left : (r : ℕ) → after r .left ≡ routineAt g r .left = λ r. ap (λ (x : Position). x .left) (same r) in
+      let begun : (r : ℕ) → after r .begun ≡ routineAt g r .begun = λ r. ap (λ (x : Position). x .begun) (same r) in
+      let line = listed-right book g range z f in
+      let idle = other-stage book g range z f in
+      record {
+        numbers = f .numbers;
+        routinesBeyond = blank-behind book g range z f;
+        countersBeyond = f .countersBeyond;
+        signalsBeyond = λ e l m. getD-replicate mostSignals e false false m;
+        entriesBeyond = (line .beyond, λ i l m. getD-replicate mostEntries i 0 0 m);
+        stagesInRange =
+            λ r l. ⊎-elim (λ h. omega (arith, staying-stage book g range z f r l h)) (λ n. idle r l n .0) (among-or r (staying g));
+        placesInRange = λ r. rw (place r) (f .placesInRange r);
+        countersInRange = f .countersInRange;
+        lengthsInRange = (line .short, omega arith);
+        entriesInRange = (line .entries, λ i l. absurd (omega arith));
+        listedStages =
+            λ r l way.
+            ⊎-elim (λ h. among-listed r (rw (at-start-entries book g range z f) h)) (λ n. absurd (idle r l n .1 way))
+            (among-or r (staying g));
+        unlistedStages =
+            λ r l out h.
+            let one = listed-stage r h in
+            ⊎-elim (λ e. omega (arith, one, e)) (λ e. omega (arith, one, e)) out;
+        noneTwice = (line .once, λ i j l m e. omega arith);
+        startStages = λ r inside. absurd (omega (arith, inside .1));
+        leftWhereBegun = λ r. rw (begun r, place r, left r) (f .leftWhereBegun r);
+        leftElsewhere = λ r. rw (begun r, left r) (f .leftElsewhere r);
+      }
+
+  pub at-start-sound : Sound book (atStart g)
+  unfolding atStart
+  at-start-sound =
+      record {
+        fits = at-start-fits;
+        sized = at-start-sized book g range z f;
+        present = z .broadcast;
+        endSignals = length-map (g .routines) (λ x. x .stopping) ∙ z .routines;
+        numbers = tt;
+      }

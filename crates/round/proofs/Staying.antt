@@ -1,0 +1,166 @@
+-- A turn leaves a sound state sound. Each of its steps keeps the state sound by its effect, and the last one leaves a position that fitting
+-- allows. The turn then puts its routine there, in a stage of a listed routine.
+use Prim.Native.Nat.{ℕ, _<_, _≤_}
+use mathlib.Core.Path.{_≡_, _∙_}
+use mathlib.Core.Bool.{true, false}
+use mathlib.Core.List.{List}
+use mathlib.Core.Logic.{_⊎_, inl, inr}
+use native.Mathlib.Omega.{arith}
+use lib.ListN.{length, length-set}
+use Rattle.book.specs.Layout.{mostRoutines, routinesOf, stepCount}
+use Rattle.book.specs.Book.{countsOf, routineSteps}
+use Rattle.book.specs.Accepted.{Accepted}
+use Rattle.kinds.specs.Steps.{stepAt}
+use Rattle.kinds.specs.Timed.{Timed}
+use Rattle.game.specs.Game.{notStarted, continuing, rested, ended, stopped, blank, routineAt, withRoutine}
+use Rattle.game.specs.Fits.{In}
+use Rattle.round.specs.declared.Ending.{Ending}
+use Rattle.round.specs.declared.Ending.the-variants.{Ended, Rested, Missed, Continued}
+use Rattle.round.specs.declared.Position.{Position}
+use Rattle.round.specs.State.{State, withGame}
+use Rattle.round.specs.Actions.{positionOf, placed}
+use Rattle.round.specs.Jumps.{sizeOf}
+use Rattle.round.specs.Rounds.{ticks, mostTicks, stageAfter, withEnd, again, ticksOf, turn}
+use Rattle.round.proofs.Leads.{Leaves, leads, restOver}
+use Rattle.round.proofs.Acts.{Stands}
+use Rattle.round.proofs.Tries.{fresh-stands}
+use Rattle.round.proofs.Stepping.{ticks-by}
+use Rattle.round.proofs.Falls.{standing-below, leads-inside}
+use Rattle.round.proofs.Parsed.{size-same, parse-of, parse-pauses}
+use Rattle.round.proofs.Sound.{Sound}
+use Rattle.round.proofs.Coming.{turn-untouched}
+use Rattle.round.proofs.AfterTurn.{going-parts, end-keeps, turn-by}
+use Rattle.round.proofs.Fitting.{set-each, game-sound, effect-sound}
+
+-- the stages in which a turn leaves its routine
+stage-after : (h : Ending) → (continuing ≤ stageAfter h) × (stageAfter h ≤ ended)
+stage-after Ended = (omega arith, omega arith)
+stage-after Rested = (omega arith, omega arith)
+stage-after Missed = (omega arith, omega arith)
+stage-after Continued = (omega arith, omega arith)
+
+-- none of them is the stage of a routine that is not listed
+not-unlisted : {stage : ℕ} → continuing ≤ stage → stage ≤ ended → (stage ≡ notStarted) ⊎ (stage ≡ stopped) → ⊥
+not-unlisted low high (inl e) = omega arith
+not-unlisted low high (inr e) = omega arith
+
+-- a routine's end is in the flags, which stay as many
+end-sound : {book : List ℕ} (r : ℕ) {s : State} → Sound book s → Sound book (withEnd Ended r s)
+end-sound r {s} h =
+    record {
+      fits = h .fits;
+      sized = h .sized;
+      present = h .present;
+      endSignals = length-set (s .endSignals) r true ∙ h .endSignals;
+      numbers = h .numbers;
+    }
+
+pub again-sound : {book : List ℕ} (s : State) → Sound book s → Sound book (again s)
+again-sound s h =
+    record { fits = h .fits; sized = h .sized; present = h .present; endSignals = h .endSignals; numbers = h .numbers }
+
+-- routine r of the book
+module _ (book : List ℕ) (a : Accepted book) (r : ℕ) (below : r < routinesOf book) (s : State) (h : Sound book s) where
+  -- in a game that fits it stands where it may
+  sound-stands : Stands (countsOf book) (routineSteps book r) (positionOf (routineAt (s .game) r))
+  sound-stands =
+      record {
+        inside = omega (arith, h .fits .placesInRange r below, size-same book a r below);
+        whereBegun = h .fits .leftWhereBegun r below;
+        elsewhere = h .fits .leftElsewhere r below;
+      }
+
+  -- if it is to be continued, it may be put where it may stand, in a stage from 1 to 3
+  placed-sound :
+      (stage : ℕ) (y : Position) → routineAt (s .game) r .stage ≡ continuing → continuing ≤ stage → stage ≤ ended →
+      Stands (countsOf book) (routineSteps book r) y →
+      Sound book (withGame s (withRoutine (s .game) r (placed (routineAt (s .game) r) stage y)))
+  placed-sound stage y before low high stand =
+      let f = h .fits in
+      let z = h .sized in
+      let g = s .game in
+      let x = placed (routineAt g r) stage y in
+      let there : r < length (g .routines) = omega (arith, z .routines, a .laid .counts .fewRoutines) in
+      game-sound h (withRoutine g r x)
+      (record {
+        numbers = f .numbers;
+        routinesBeyond =
+            set-each (g .routines) r x blank (λ i w. routinesOf book ≤ i → i < mostRoutines → w ≡ blank) there
+            (λ k m. absurd (omega arith)) (λ i m. f .routinesBeyond i);
+        countersBeyond = f .countersBeyond;
+        signalsBeyond = f .signalsBeyond;
+        entriesBeyond = f .entriesBeyond;
+        stagesInRange =
+            set-each (g .routines) r x blank (λ i w. i < routinesOf book → w .stage ≤ stopped) there
+            (λ k. omega arith) (λ i m. f .stagesInRange i);
+        placesInRange =
+            set-each (g .routines) r x blank (λ i w. i < routinesOf book → w .place ≤ stepCount book i) there
+            (λ k. omega (arith, stand .inside, size-same book a r below)) (λ i m. f .placesInRange i);
+        countersInRange = f .countersInRange;
+        lengthsInRange = f .lengthsInRange;
+        entriesInRange = f .entriesInRange;
+        listedStages =
+            set-each (g .routines) r x blank
+            (λ i w. i < routinesOf book → (w .stage ≡ continuing) ⊎ (w .stage ≡ rested) → In (g .listed) i) there
+            (λ k l. f .listedStages r below (inl before)) (λ i m. f .listedStages i);
+        unlistedStages =
+            set-each (g .routines) r x blank
+            (λ i w. i < routinesOf book → (w .stage ≡ notStarted) ⊎ (w .stage ≡ stopped) → In (g .listed) i → ⊥) there
+            (λ k l. absurd (not-unlisted low high l)) (λ i m. f .unlistedStages i);
+        noneTwice = f .noneTwice;
+        startStages =
+            set-each (g .routines) r x blank (λ i w. In (g .starting) i → w .stage ≡ notStarted) there
+            (λ l. absurd (omega (arith, f .startStages r l, before))) (λ i m. f .startStages i);
+        leftWhereBegun =
+            set-each (g .routines) r x blank
+            (λ i w.
+            i < routinesOf book → w .begun ≡ true →
+            (n : ℕ) × Timed (stepAt (countsOf book) (routineSteps book i) (w .place)) n × (w .left < n)) there
+            (λ k. stand .whereBegun) (λ i m. f .leftWhereBegun i);
+        leftElsewhere =
+            set-each (g .routines) r x blank (λ i w. i < routinesOf book → w .begun ≡ false → w .left ≡ 0) there
+            (λ k. stand .elsewhere) (λ i m. f .leftElsewhere i);
+      })
+      (record {
+        routines = length-set (g .routines) r x ∙ z .routines;
+        counters = z .counters;
+        listed = z .listed;
+        starting = z .starting;
+        broadcast = z .broadcast;
+      })
+
+module _ (book : List ℕ) (a : Accepted book) where
+  module _ (r : ℕ) (below : r < routinesOf book) where
+    abbrev steps : List ℕ
+    steps = routineSteps book r
+
+    -- a step that goes on leads to a place of the routine
+    leaves-inside : (x : Position) (q : ℕ) → Leaves (countsOf book) steps x q → q ≤ sizeOf steps
+    leaves-inside x q (leads l) = leads-inside (countsOf book) steps (parse-of book a r below) (parse-pauses book a r below) (x .place) q l
+    leaves-inside x q (restOver begun form) = omega (arith, standing-below (countsOf book) steps (x .place) form)
+
+    -- the steps of a turn keep a sound state sound, and leave the routine where it may stand
+    ticks-stay :
+        (n : ℕ) (x : Position) (s : State) → Stands (countsOf book) steps x → Sound book s →
+        let t = ticks n (countsOf book) r steps x s in
+        Stands (countsOf book) steps (t .position) × Sound book (t .state)
+    ticks-stay =
+        ticks-by (countsOf book) r steps
+        (λ x s t. Stands (countsOf book) steps x → Sound book s → Stands (countsOf book) steps (t .position) × Sound book (t .state))
+        (λ x s q e told t leaves right says rest stand h.
+        rest (fresh-stands (countsOf book) steps q (leaves-inside x q leaves)) (effect-sound book a s e right h))
+        (λ x s how y told stays stops stand h. (stays stand, h))
+        (λ x s stand h. (stand, h))
+
+  pub turn-sound : (r : ℕ) (s : State) → r < routinesOf book → Sound book s → Sound book (turn book r s .state)
+  turn-sound r s below h =
+      let x = routineAt (s .game) r in
+      let t = ticksOf book r s in
+      let n = mostTicks (routineSteps book r) in
+      let (stand, sound) = ticks-stay r below n (positionOf x) s (sound-stands book a r below s h) h in
+      let (low, high) = stage-after (t .ending) in
+      let turned = placed-sound book a r below (t .state) sound (stageAfter (t .ending)) (t .position) in
+      turn-by book r s (λ p. Sound book (p .state)) (λ k. h)
+      (λ k.
+      let stage = turn-untouched book r s .seats r .stage ∙ going-parts (x .suspended) (x .stage) k .1 in
+      end-keeps (Sound book) (t .ending) r _ (end-sound r) (turned stage low high stand))

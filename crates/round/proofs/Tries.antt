@@ -1,0 +1,90 @@
+-- The tries of ops 8 to 12 sorted: one that finds its thing goes on, and one that finds it missing halts the turn. By the tests that a try
+-- makes: whether the thing is there, and whether the round is being closed. The positions at which a step may leave a routine are such as
+-- fitting asks: with nothing begun at a place of the routine, or on a timed step with less left than its n.
+use Prim.Native.Nat.{ℕ, _+_, _-_, _<_, _≤_}
+use mathlib.Core.Path.{_≡_, refl, sym, _∙_}
+use mathlib.Core.Bool.{false, _&&_, not, true≢false, and-true}
+use mathlib.Core.List.{List, [], _∷_}
+use native.Mathlib.Omega.{arith}
+use native.Mathlib.Decide.{decLt}
+use borrow.Author.Tests.{eqb-false}
+use lib.Dec.{eqb}
+use Rattle.kinds.specs.declared.Step.{Step}
+use Rattle.kinds.specs.declared.Counts.{Counts}
+use Rattle.kinds.specs.Steps.{opAt, stepAt}
+use Rattle.kinds.specs.Timed.{Timed, restFor, waitFor, joinFor, timedCount}
+use Rattle.game.proofs.Below.{by-test}
+use Rattle.round.specs.declared.Position.{Position}
+use Rattle.round.specs.declared.Effect.{Effect}
+use Rattle.round.specs.declared.Effect.the-variants.{Nothing}
+use Rattle.round.specs.State.{State, Thing, missing, isThere}
+use Rattle.round.specs.Jumps.{sizeOf}
+use Rattle.round.specs.Ticks.{fresh, begunAt, countAt, tries, lacks, waits, waitsFor}
+use Rattle.round.proofs.Leads.{Leaves}
+use Rattle.round.proofs.Acts.{Right, nothing, isGiving, Asks, Stands, silent}
+use Rattle.round.proofs.Acts.{finds, misses, continues, Sorted, SortedTick, isTelling}
+
+-- a timed step has one n
+timed-count : {st : Step} {n : ℕ} → Timed st n → timedCount st ≡ n
+timed-count restFor = refl
+timed-count waitFor = refl
+timed-count joinFor = refl
+
+pub some-left : (k : ℕ) → eqb k 0 ≡ false → 0 < k
+some-left k h = elim (decLt 0 k) [ yes l ↦ l | no l ↦ absurd (eqb-false k 0 h (omega arith)) ]
+
+module _ (counts : Counts) (steps : List ℕ) where
+  pub fresh-stands : (p : ℕ) → p ≤ sizeOf steps → Stands counts steps (fresh p)
+  fresh-stands p h = record { inside = h; whereBegun = λ b. absurd (true≢false (sym b)); elsewhere = λ b. refl }
+
+  -- a timed step with n, at position x
+  module _ (x : Position) (n : ℕ) (timed : Timed (stepAt counts steps (x .place)) n) where
+    count-within : Stands counts steps x → countAt x n ≤ n
+    count-within h =
+        by-test (λ k. k ≤ n) (x .begun)
+        (λ b. let (m, other, below) = h .whereBegun b in omega (arith, sym (timed-count other) ∙ timed-count timed))
+        (λ b. omega arith)
+
+    -- one less is left than the count, which is at most n
+    pub begun-stands : 0 < countAt x n → Stands counts steps x → Stands counts steps (begunAt (x .place) (countAt x n - 1))
+    begun-stands some h =
+        record {
+          inside = h .inside;
+          whereBegun = λ b. (n, timed, omega (arith, count-within h));
+          elsewhere = λ b. absurd (true≢false b);
+        }
+
+-- routine r stands at position x
+module _ (counts : Counts) (r : ℕ) (steps : List ℕ) (x : Position) (s : State) where
+  -- the step there asks for thing t, and a routine that rests at y stands where fitting asks
+  abbrev MayMiss : Thing → Position → Type 0
+  MayMiss t y = Asks x (stepAt counts steps (x .place)) t × (Stands counts steps x → Stands counts steps y)
+
+  lacks-sorted :
+      (t : Thing) (y : Position) → MayMiss t y → isThere s t ≡ false →
+      Sorted counts r steps x s (lacks r steps x s y) (missing r (x .place) t ∷ [])
+  lacks-sorted t y (asks, stays) none =
+      by-test (λ a. Sorted counts r steps x s a (missing r (x .place) t ∷ [])) (s .eoi) (λ h. (stays, misses asks none h))
+      (λ h. (λ i. i, continues asks none h))
+
+  -- the turn may go on behind the step, which is no signal step
+  module _ (on : Leaves counts steps x (x .place + 1)) (other : isTelling (opAt steps (x .place)) ≡ false) where
+    pub tries-sorted :
+        (t : Thing) (e : Effect) (y : Position) → Right counts s e → isGiving e ≡ false → (isThere s t ≡ false → MayMiss t y) →
+        SortedTick counts r steps x s (tries r steps x s t e y)
+    tries-sorted t e y right quiet may =
+        by-test (SortedTick counts r steps x s) (isThere s t) (λ h. (on, right, finds quiet other h)) (λ h. lacks-sorted t y (may h) h)
+
+    pub waits-sorted : (t : Thing) → Asks x (stepAt counts steps (x .place)) t → SortedTick counts r steps x s (waits r steps x s t)
+    waits-sorted t asks =
+        tries-sorted t Nothing (fresh (x .place)) nothing refl
+        (λ h. (asks, λ stood. fresh-stands counts steps (x .place) (stood .inside)))
+
+    -- with the count k: a thing is asked for while some of it is left
+    pub waits-for-sorted :
+        (t : Thing) (k : ℕ) → (0 < k → MayMiss t (begunAt (x .place) (k - 1))) →
+        SortedTick counts r steps x s (waitsFor r steps x s t k)
+    unfolding waitsFor
+    waits-for-sorted t k may =
+        by-test (SortedTick counts r steps x s) (eqb k 0 && not (isThere s t)) (λ h. (on, nothing, silent refl other))
+        (λ h. tries-sorted t Nothing (begunAt (x .place) (k - 1)) nothing refl (λ none. may (some-left k (rw (none, and-true) at h))))

@@ -1,0 +1,212 @@
+-- What is told is true in its order: a try finds its thing if the thing is known at first or came before the try, and misses it if not. It
+-- holds of one stretch after another, of each step, since a step tries in the state that it is taken in, and so of a turn.
+use Prim.Native.Nat.{ℕ, _<_}
+use mathlib.Core.Path.{_≡_, refl, sym, _∙_}
+use mathlib.Core.Bool.{Bool, true, false, true≢false}
+use mathlib.Core.List.{List, [], _∷_, _++_}
+use mathlib.Core.Logic.{_↔_, Iff·symm, Iff·trans, _⊎_, inl, inr, ⊎-map, ⊎-elim}
+use native.Mathlib.Omega.{arith}
+use lib.ListN.{length}
+use Rattle.book.specs.Book.{countsOf, routineSteps}
+use Rattle.book.specs.Accepted.{Accepted}
+use Rattle.round.specs.declared.Position.{Position}
+use Rattle.round.specs.declared.Ending.{Ending}
+use Rattle.round.specs.declared.Effect.{Effect}
+use Rattle.round.specs.declared.Effect.the-variants.{Mark}
+use Rattle.round.specs.State.{State, Thing, Happening, gave, ended, missing, past, marked, completed, isThere}
+use Rattle.round.specs.History.{howMany, Somewhere}
+use Rattle.round.specs.Ticks.{effectOn}
+use Rattle.round.specs.Rounds.{ticks, ticksOf, turn}
+use Rattle.round.specs.Demand.{Comes}
+use Rattle.round.proofs.Acts.{Right, isGiving, Says, Stops}
+use Rattle.round.proofs.TurnLaws.{moves}
+use Rattle.round.proofs.Histories.{somewhere-append, in-second, in-either, nothing-comes}
+use Rattle.round.proofs.Stepping.{ticks-by}
+use Rattle.round.proofs.Sound.{Sound}
+use Rattle.round.proofs.Coming.{come-there}
+use Rattle.round.proofs.Effects.{effect-untouched, effect-ungiven, same-things, Gave, give, give-number}
+use Rattle.round.proofs.Fitting.{effect-sound}
+use Rattle.round.proofs.AfterTurn.{end-keeps, turn-by}
+
+-- what a try says of the things that are known before it
+abbrev Holds : (Thing → Type 0) → Happening → Type 0
+Holds P (gave e k) = Unit {0}
+Holds P (ended r) = Unit {0}
+Holds P (missing r p t) = P t → ⊥
+Holds P (past r p t) = P t
+Holds P (marked r n) = Unit {0}
+Holds P (completed r p) = Unit {0}
+
+-- the things known at first and what comes by this; and what comes somewhere in a history
+abbrev With : (Thing → Type 0) → Happening → Thing → Type 0
+With P h t = P t ⊎ Comes t h
+
+abbrev Since : (Thing → Type 0) → List Happening → Thing → Type 0
+Since P told t = P t ⊎ Somewhere (Comes t) told
+
+-- each try of a history holds of the things known at first and those that came before it
+abbrev pub InOrder : (Thing → Type 0) → List Happening → Type 0
+InOrder P [] = Unit {0}
+InOrder P (h ∷ told) = Holds P h × InOrder (With P h) told
+
+-- of the same things the same holds
+holds-same : (P Q : Thing → Type 0) → ((t : Thing) → P t ↔ Q t) → (h : Happening) → Holds P h → Holds Q h
+holds-same P Q same (gave e k) x = tt
+holds-same P Q same (ended r) x = tt
+holds-same P Q same (missing r p t) x = λ y. x (same t .1 y)
+holds-same P Q same (past r p t) x = same t .0 x
+holds-same P Q same (marked r n) x = tt
+holds-same P Q same (completed r p) x = tt
+
+-- the same, or a third
+same-or : {A B C : Type 0} → A ↔ B → (A ⊎ C) ↔ (B ⊎ C)
+same-or (f, g) = (⊎-map f (λ c. c), ⊎-map g (λ c. c))
+
+order-same : (P Q : Thing → Type 0) → ((t : Thing) → P t ↔ Q t) → (told : List Happening) → InOrder P told → InOrder Q told
+order-same P Q same [] o = tt
+order-same P Q same (h ∷ told) o = (
+  holds-same P Q same h (o .0),
+  order-same (With P h) (With Q h) (λ t. same-or (same t)) told (o .1),
+)
+
+none-since : {A : Type 0} → (A ⊎ ⊥) ↔ A
+none-since = (⊎-elim (λ a. a) (λ n. absurd n), inl)
+
+regroup : {A B C : Type 0} → ((A ⊎ B) ⊎ C) ↔ (A ⊎ (B ⊎ C))
+regroup = (⊎-elim (⊎-map (λ a. a) inl) (λ c. inr (inr c)), ⊎-elim (λ a. inl (inl a)) (⊎-map inr (λ c. c)))
+
+-- one history after another
+order-append : (P : Thing → Type 0) (a b : List Happening) → InOrder P a → InOrder (Since P a) b → InOrder P (a ++ b)
+order-append P [] b o p = order-same (Since P []) P (λ t. none-since) b p
+order-append P (h ∷ a) b o p = (
+  o .0,
+  order-append (With P h) a b (o .1) (order-same (Since P (h ∷ a)) (Since (With P h) a) (λ t. Iff·symm regroup) b p),
+)
+
+since-append : (P : Thing → Type 0) (a b : List Happening) (t : Thing) → Since (Since P a) b t ↔ Since P (a ++ b) t
+since-append P a b t = Iff·trans regroup (⊎-map (λ k. k) some, ⊎-map (λ k. k) (somewhere-append (Comes t) a b))
+  where
+    some : Somewhere (Comes t) a ⊎ Somewhere (Comes t) b → Somewhere (Comes t) (a ++ b)
+    some (inl w) = in-either (Comes t) a b true (λ e. w) (λ e. absurd (true≢false e))
+    some (inr w) = in-second (Comes t) a b w
+
+-- what a try says that stands somewhere in a history
+pub order-at :
+    (P : Thing → Type 0) (before after : List Happening) (h : Happening) → InOrder P (before ++ (h ∷ after)) → Holds (Since P before) h
+order-at P [] after h o = holds-same P (Since P []) (λ t. Iff·symm none-since) h (o .0)
+order-at P (x ∷ before) after h o =
+    holds-same (Since (With P x) before) (Since P (x ∷ before)) (λ t. regroup) h (order-at (With P x) before after h (o .1))
+
+-- the things that are there in a state
+abbrev pub There : State → Thing → Type 0
+There s t = isThere s t ≡ true
+
+-- state u comes of state s, with this told between them; nothing is claimed where more numbers are given than are kept
+pub record Becomes (s : State) (told : List Happening) (u : State) : Type 0 where
+  pub few : u .tooMany ≡ false → s .tooMany ≡ false
+  pub there : u .tooMany ≡ false → (t : Thing) → There u t ↔ Since (There s) told t
+  pub order : u .tooMany ≡ false → InOrder (There s) told
+
+-- a try that holds of what is there holds of what was there before and has come
+order-then :
+    {s u : State} (a b : List Happening) → Becomes s a u → u .tooMany ≡ false → InOrder (There u) b → InOrder (There s) (a ++ b)
+order-then {s} {u} a b first few o =
+    order-append (There s) a b (first .order few) (order-same (There u) (Since (There s) a) (first .there few) b o)
+
+pub becomes-both : (s u v : State) (a b : List Happening) → Becomes s a u → Becomes u b v → Becomes s (a ++ b) v
+becomes-both s u v a b first then =
+    record {
+      few = λ h. first .few (then .few h);
+      there =
+          λ h t.
+          Iff·trans (then .there h t) (Iff·trans (same-or (first .there (then .few h) t)) (since-append (There s) a b t));
+      order = λ h. order-then a b first (then .few h) (then .order h);
+    }
+
+-- where no signal is given the same things are there, and none comes
+pub becomes-same :
+    {s u : State} (told : List Happening) → u .tooMany ≡ s .tooMany → ((t : Thing) → isThere u t ≡ isThere s t) → moves told ≡ 0 →
+    InOrder (There s) told → Becomes s told u
+becomes-same told many same none o =
+    record {
+      few = λ h. sym many ∙ h;
+      there = λ h t. (λ k. inl (sym (same t) ∙ k), ⊎-elim (λ k. same t ∙ k) (λ k. absurd (nothing-comes t told none k)));
+      order = λ h. o;
+    }
+
+effect-becomes :
+    (s : State) (e : Effect) (told : List Happening) → isGiving e ≡ false → moves told ≡ 0 → InOrder (There s) told →
+    Becomes s told (effectOn e s)
+effect-becomes s e told h =
+    let same = effect-ungiven s e h in
+    becomes-same told (same .tooMany) (same-things (effect-untouched s e) same)
+
+-- a thing is there, or what follows if it is not
+pub there-or : {A : Type 0} (b : Bool) → (b ≡ false → A) → (b ≡ true) ⊎ A
+there-or true h = inl refl
+there-or false h = inr (h refl)
+
+-- where one is given, that and its number come
+becomes-given : {s u : State} (r p e k : ℕ) → e < length (s .present) → Gave s e k u → Becomes s (completed r p ∷ gave e k ∷ []) u
+becomes-given {s} {u} r p e k below b =
+    record {
+      few = b .few;
+      there = λ few t. (λ h. there-or (isThere s t) (λ n. inr (inl (b .came t n h))), ⊎-elim (b .keeps t) (brings few t));
+      order = λ h. (tt, (tt, tt));
+    }
+  where
+    brings : u .tooMany ≡ false → (t : Thing) → Somewhere (Comes t) (completed r p ∷ gave e k ∷ []) → There u t
+    brings few t (inr (inl c)) = come-there t below b few c
+
+module _ (book : List ℕ) (a : Accepted book) where
+  -- the turns of routine r
+  module _ (r : ℕ) where
+    abbrev steps : List ℕ
+    steps = routineSteps book r
+
+    signal-kept : (s : State) → Sound book s → (e : ℕ) → e < countsOf book .signals → e < length (s .present)
+    signal-kept s ok e l = omega (arith, ok .present, a .laid .counts .fewSignals)
+
+    -- a step that goes on, and one that halts the turn
+    step-becomes :
+        (x : Position) (s : State) (e : Effect) (told : List Happening) → Right (countsOf book) s e →
+        Says (countsOf book) r steps x s e told → Sound book s → Becomes s (completed r (x .place) ∷ told) (effectOn e s)
+    unfolding howMany
+    step-becomes x s e told right (Says.silent h o) ok = effect-becomes s e _ h refl (tt, tt)
+    step-becomes x s e told right (Says.marks {n} o) ok = effect-becomes s (Mark n) _ refl refl (tt, (tt, tt))
+    step-becomes x s e told (Right.give l) (Says.gives {e = i} o) ok = becomes-given r _ i 0 (signal-kept s ok i l) (give s i)
+    step-becomes x s e told (Right.giveNumber l f) (Says.givesNumber {e = i} {v} o) ok =
+        becomes-given r _ i _ (signal-kept s ok i l) (give-number s i v)
+    step-becomes x s e told right (Says.finds h o k) ok = effect-becomes s e _ h refl (tt, (inl k, tt))
+
+    stop-order :
+        (x : Position) (s : State) {how : Ending} {y : Position} {told : List Happening} → Stops (countsOf book) r steps x s how y told →
+        InOrder (There s) told
+    stop-order x s Stops.ends = (tt, tt)
+    stop-order x s Stops.rests = tt
+    stop-order x s (Stops.misses q m e) = ((λ h. true≢false (sym h ∙ m)), tt)
+    stop-order x s (Stops.continues q m e) = ((λ h. true≢false (sym h ∙ m)), tt)
+
+    -- the steps of a turn
+    ticks-order :
+        (n : ℕ) (x : Position) (s : State) → Sound book s →
+        let t = ticks n (countsOf book) r steps x s in
+        t .state .tooMany ≡ false → (s .tooMany ≡ false) × InOrder (There s) (t .told)
+    ticks-order =
+        ticks-by (countsOf book) r steps
+        (λ x s t. Sound book s → t .state .tooMany ≡ false → (s .tooMany ≡ false) × InOrder (There s) (t .told))
+        (λ x s q e told t leaves right says rest ok few.
+        let (here, later) = rest (effect-sound book a s e right ok) few in
+        let first = step-becomes x s e told right says ok in
+        (first .few here, order-then (completed r (x .place) ∷ told) (t .told) first here later))
+        (λ x s how y told stays stops ok few. (few, stop-order x s stops))
+        (λ x s ok few. (few, tt))
+
+  pub turn-order :
+      (r : ℕ) (s : State) → Sound book s → turn book r s .state .tooMany ≡ false → InOrder (There s) (turn book r s .told)
+  turn-order r s ok =
+      let t = ticksOf book r s in
+      turn-by book r s (λ p. p .state .tooMany ≡ false → InOrder (There s) (p .told)) (λ h few. tt)
+      (λ h few.
+      ticks-order r _ _ s ok
+      (end-keeps (λ u. u .tooMany ≡ false → t .state .tooMany ≡ false) (t .ending) r _ (λ k. k) (λ k. k) few) .1)

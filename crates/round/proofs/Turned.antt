@@ -1,0 +1,206 @@
+-- What a turn does to the things, to the flags, and to where routines sit, by what its steps do and how the last of them halts it. The
+-- routine is continuing, so before the turn its end is there by its end signal at most; a turn that ends it tells so last, and then its end
+-- is there.
+use Prim.Native.Nat.{ℕ, _<_}
+use mathlib.Core.Path.{_≡_, refl, sym, subst, _∙_, ap}
+use mathlib.Core.Bool.{true, false, true≢false, Bool-discrete, or-true}
+use mathlib.Core.List.{List, [], _∷_, _++_}
+use mathlib.Core.Logic.{_≢_, inl, inr}
+use native.Mathlib.Omega.{arith}
+use native.Mathlib.Decide.{ℕ-discrete}
+use lib.Dec.{eqb}
+use lib.ListN.{length}
+use lib.Seq.{getD-set-same, getD-set-other}
+use Rattle.kinds.specs.declared.Counts.{Counts}
+use Rattle.book.specs.Layout.{mostSignals}
+use Rattle.game.specs.declared.Game.{Game}
+use Rattle.game.specs.Game.{continuing, blank, routineAt, withRoutine}
+use Rattle.game.specs.Game as stage
+use Rattle.game.proofs.Below.{not-true-false}
+use Rattle.round.specs.declared.Ending.{Ending}
+use Rattle.round.specs.declared.Ending.the-variants.{Ended}
+use Rattle.round.specs.declared.Position.{Position}
+use Rattle.round.specs.State.{State, withGame, Thing, signal, end, number, Happening, ended, isEndThere, isThere}
+use Rattle.round.specs.History.{howMany, Somewhere}
+use Rattle.round.specs.Actions.{placed}
+use Rattle.round.specs.Rounds.{Ticks, afterTurn}
+use Rattle.round.specs.Demand.{endsRoutine, Comes}
+use Rattle.round.proofs.Acts.{Stops}
+use Rattle.round.proofs.Coming.{Carries}
+use Rattle.round.proofs.Effects.{Untouched}
+use Rattle.round.proofs.Histories.{many-append, none-of-both, none-told, somewhere-append, in-second, end-ends}
+use Rattle.round.proofs.Maps.{same-set}
+use Rattle.round.proofs.Seats.{SameSeat, same-seat}
+use Rattle.round.proofs.AfterTurn.{placed-there}
+use Rattle.round.proofs.Shaping.{Shape}
+use Rattle.round.proofs.TurnLaws.{moves}
+
+-- a game in which routine r alone may sit elsewhere, and none is suspended or resumed, or joins the playing order or leaves it
+pub record Sits (r : ℕ) (g h : Game) : Type 0 where
+  pub listed : h .listed ≡ g .listed
+  pub suspended : (q : ℕ) → routineAt h q .suspended ≡ routineAt g q .suspended
+  pub others : (q : ℕ) → q ≢ r → SameSeat (routineAt h q) (routineAt g q)
+
+-- what a turn of routine r in state s does, which told this and leaves state v
+pub record Turned (r : ℕ) (s : State) (told : List Happening) (v : State) : Type 0 where
+  pub sits : Sits r (s .game) (v .game)
+  pub eoi : v .eoi ≡ s .eoi
+  pub keeps : (t : Thing) → isThere s t ≡ true → isThere v t ≡ true
+  pub brings : (t : Thing) → v .tooMany ≡ false → Somewhere (Comes t) told → isThere v t ≡ true
+  pub came : (t : Thing) → isThere s t ≡ false → isThere v t ≡ true → Somewhere (Comes t) told
+  pub few : v .tooMany ≡ false → s .tooMany ≡ false
+  pub unmoved : moves told ≡ 0 → v .moved ≡ s .moved
+  pub moved : 0 < moves told → v .moved ≡ true
+
+pub passed-over : {r : ℕ} {s : State} → Turned r s [] s
+unfolding howMany
+passed-over =
+    record {
+      sits = record { listed = refl; suspended = λ q. refl; others = λ q n. same-seat };
+      eoi = refl;
+      keeps = λ t h. h;
+      brings = λ t h k. absurd k;
+      came = λ t h k. absurd (true≢false (sym k ∙ h));
+      few = λ h. h;
+      unmoved = λ h. refl;
+      moved = λ h. absurd (omega arith);
+    }
+
+end-of : {q r : ℕ} → Comes (end q) (ended r) → q ≡ r
+end-of Comes.routineEnded = refl
+
+-- a turn of routine r, which is continuing, with these steps
+module _
+    (r : ℕ) (s : State) (steps : Ticks) (a : Untouched s (steps .state)) (c : Carries s (steps .told) (steps .state))
+    (signals : length (s .present) ≡ mostSignals) (goes : routineAt (s .game) r .stage ≡ continuing)
+  where
+    abbrev u : State
+    u = steps .state
+
+    abbrev told : List Happening
+    told = steps .told
+
+    -- the state behind a turn that ends so
+    abbrev behind : Ending → Position → State
+    behind how y = afterTurn r (record { ending = how; position = y; state = u; told = told })
+
+    placed-sits : (next : ℕ) (y : Position) → Sits r (s .game) (withRoutine (u .game) r (placed (routineAt (u .game) r) next y))
+    placed-sits next y =
+        record {
+          listed = a .listed;
+          suspended = λ q. same-set (λ x. x .suspended) (u .game .routines) r _ blank refl q ∙ a .seats q .suspended;
+          others =
+              λ q n.
+              let e = getD-set-other (u .game .routines) r q (placed (routineAt (u .game) r) next y) blank n in
+              subst (λ x. SameSeat x (routineAt (s .game) q)) (sym e) (a .seats q);
+        }
+
+    -- a turn that does not end the routine
+    module _ (next : ℕ) (y : Position) (other : eqb next stage.ended ≡ false) (noEnd : howMany endsRoutine told ≡ 0) where
+      abbrev after : State
+      after = withGame u (withRoutine (u .game) r (placed (routineAt (u .game) r) next y))
+
+      not-ended : eqb (routineAt (u .game) r .stage) stage.ended ≡ false
+      not-ended = ap (λ n. eqb n stage.ended) (a .seats r .stage ∙ goes)
+
+      same-there : (t : Thing) → isThere after t ≡ isThere u t
+      same-there = placed-there u r next y (other ∙ sym not-ended)
+
+      resting-turned : Turned r s told after
+      resting-turned =
+          record {
+            sits = placed-sits next y;
+            eoi = a .eoi;
+            keeps = λ t h. same-there t ∙ c .keeps t h;
+            brings = brought;
+            came = λ t h k. c .came t h (sym (same-there t) ∙ k);
+            few = c .few;
+            unmoved = λ h. c .unmoved (omega arith);
+            moved = λ h. c .moved (omega arith);
+          }
+        where
+          brought : (t : Thing) → u .tooMany ≡ false → Somewhere (Comes t) told → isThere after t ≡ true
+          brought (signal e) h k = same-there (signal e) ∙ c .brings signals (signal e) refl h k
+          brought (end q) h k = absurd (none-told endsRoutine (Comes (end q)) end-ends told noEnd k)
+          brought (number e n) h k = same-there (number e n) ∙ c .brings signals (number e n) refl h k
+
+    -- a turn that ends it
+    module _
+        (y : Position) (before : List Happening) (noEnd : howMany endsRoutine before ≡ 0) (history : told ≡ before ++ (ended r ∷ []))
+        (below : r < length (s .endSignals))
+      where
+        abbrev last : State
+        last = behind Ended y
+
+        end-there : isThere last (end r) ≡ true
+        unfolding isThere isEndThere
+        end-there =
+            let here : r < length (u .endSignals) = rw (a .endSignals) below in
+            rw (getD-set-same (u .endSignals) r true false here, or-true)
+
+        others-there : (q : ℕ) → q ≢ r → isThere last (end q) ≡ isThere u (end q)
+        unfolding isThere isEndThere
+        others-there q n =
+            rw (getD-set-other (u .endSignals) r q true false n, getD-set-other (u .game .routines) r q _ blank n)
+
+        stays : (t : Thing) → isThere u t ≡ true → isThere last t ≡ true
+        unfolding isThere
+        stays (signal e) h = h
+        stays (end q) h = elim (ℕ-discrete q r) [ yes e ↦ rw e end-there | no n ↦ others-there q n ∙ h ]
+        stays (number e k) h = h
+
+        brought : (t : Thing) → u .tooMany ≡ false → Somewhere (Comes t) told → isThere last t ≡ true
+        brought (signal e) h k = stays (signal e) (c .brings signals (signal e) refl h k)
+        brought (end q) h k = elim (somewhere-append (Comes (end q)) before (ended r ∷ []) (subst (Somewhere (Comes (end q))) history k)) [
+          | inl m ↦ absurd (none-told endsRoutine (Comes (end q)) end-ends before noEnd m)
+          | inr (inl m) ↦ rw (end-of m) end-there
+        ]
+        brought (number e n) h k = stays (number e n) (c .brings signals (number e n) refl h k)
+
+        -- the routine's end alone is new behind the steps
+        new : (t : Thing) → isThere u t ≡ false → isThere last t ≡ true → Somewhere (Comes t) told
+        unfolding isThere
+        new (signal e) h k = absurd (true≢false (sym k ∙ h))
+        new (end q) h k =
+            elim (ℕ-discrete q r) [
+              | yes e ↦ rw (e, history) (in-second (Comes (end r)) before (ended r ∷ []) (inl Comes.routineEnded))
+              | no n ↦ absurd (true≢false (sym k ∙ others-there q n ∙ h))
+            ]
+        new (number e i) h k = absurd (true≢false (sym k ∙ h))
+
+        some-move : 0 < moves told
+        unfolding howMany
+        some-move = rw history (omega (arith, many-append endsRoutine before (ended r ∷ [])))
+
+        ending-turned : Turned r s told last
+        ending-turned =
+            record {
+              sits = placed-sits stage.ended y;
+              eoi = a .eoi;
+              keeps = λ t h. stays t (c .keeps t h);
+              brings = brought;
+              came =
+                  λ t h k.
+                  elim (Bool-discrete (isThere u t) true) [ yes e ↦ c .came t h e | no n ↦ new t (not-true-false _ n) k ];
+              few = c .few;
+              unmoved = λ h. absurd (omega (arith, some-move));
+              moved = λ h. refl;
+            }
+
+    -- by how the turn's last step halts it
+    pub turned :
+        {counts : Counts} {part : List ℕ} → Shape counts r part steps → r < length (s .endSignals) → Turned r s told (afterTurn r steps)
+    unfolding howMany
+    turned {counts} {part} shape below =
+        by-stop (steps .ending) (steps .position) (shape .lastTold) (shape .stops) (shape .history)
+      where
+        none-ends : (final : List Happening) → told ≡ shape .before ++ final → howMany endsRoutine final ≡ 0 → howMany endsRoutine told ≡ 0
+        none-ends final history none = rw history (none-of-both endsRoutine (shape .before) final (shape .noEnd) none)
+
+        by-stop :
+            (how : Ending) (y : Position) (final : List Happening) → Stops counts r part (shape .last) u how y final →
+            told ≡ shape .before ++ final → Turned r s told (behind how y)
+        by-stop how y final Stops.ends history = ending-turned y (shape .before) (shape .noEnd) history below
+        by-stop how y final Stops.rests history = resting-turned stage.rested y refl (none-ends final history refl)
+        by-stop how y final (Stops.misses asks m e) history = resting-turned stage.rested y refl (none-ends final history refl)
+        by-stop how y final (Stops.continues asks m e) history = resting-turned continuing y refl (none-ends final history refl)

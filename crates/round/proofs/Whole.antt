@@ -1,0 +1,27 @@
+-- The history of a round leaves nothing out and is true: what its states and turns say happened is told, as often as it happened, and a try
+-- finds its thing exactly if that was there from the start or came before.
+use Prim.Native.Nat.{ℕ}
+use mathlib.Core.List.{List}
+use Rattle.book.specs.Accepted.{Accepted}
+use Rattle.game.specs.declared.Game.{Game}
+use Rattle.game.specs.Game.{Sized}
+use Rattle.game.specs.Fits.{Fits}
+use Rattle.round.specs.Whole.{ToldWhole}
+use Rattle.round.proofs.Accounts.{signals-completed, marks-completed}
+use Rattle.round.proofs.Ends.{ends-counted, ended-as-told}
+use Rattle.round.proofs.Misses.{misses-told}
+use Rattle.round.proofs.Tried.{comes, came, found, lacked}
+
+pub told-whole : (book : List ℕ) (a : Accepted book) (g : Game) → Sized g → Fits book g → ToldWhole book g
+told-whole book a g z f =
+    record {
+      signals = signals-completed book g;
+      marks = marks-completed book g;
+      ends = ended-as-told book a g z f;
+      endings = ends-counted book a g z f;
+      misses = misses-told book a g z f;
+      comes = comes book a g z f;
+      came = came book a g z f;
+      found = found book a g z f;
+      lacked = lacked book a g z f;
+    }

@@ -1,0 +1,60 @@
+-- No step is completed twice in one round by one routine, and what follows from it for the limits.
+use Prim.Native.Nat.{ℕ, _*_, _≤_}
+use mathlib.Core.Bool.{Bool, false, _&&_, _||_}
+use mathlib.Core.List.{List}
+use lib.Dec.{eqb}
+use lib.ListN.{length}
+use Rattle.kinds.specs.Steps.{opAt}
+use Rattle.book.specs.Layout.{mostSteps}
+use Rattle.book.specs.Book.{routineSteps}
+use Rattle.game.specs.declared.Game.{Game}
+use Rattle.round.specs.State.{Happening, gave, ended, missing, past, marked, completed}
+use Rattle.round.specs.History.{stepsIn, howMany}
+use Rattle.round.specs.Ticks.{mostNumbers}
+use Rattle.round.specs.Rounds.{listedIn, historyOf}
+use Rattle.round.specs.Answers.{opMark, marksIn, numbersPerMark, spaceFor}
+use Rattle.round.specs.Tells.{numbersGiven}
+use Rattle.round.specs.Demand.{isSignalStep, givesSignal}
+
+-- a step of a set is completed; a step is a routine and a place
+abbrev pub completes : (ℕ → ℕ → Bool) → Happening → Bool
+completes set (gave e k) = false
+completes set (ended r) = false
+completes set (missing r p t) = false
+completes set (past r p t) = false
+completes set (marked r n) = false
+completes set (completed r p) = set r p
+
+-- the step of routine r at place p, and no other
+abbrev pub theStep : ℕ → ℕ → ℕ → ℕ → Bool
+theStep r p q o = eqb q r && eqb o p
+
+-- "0 mark"
+abbrev pub isMarkStep : List ℕ → ℕ → ℕ → Bool
+isMarkStep book r p = eqb (opAt (routineSteps book r) p) opMark
+
+-- "2 add", "3 take"
+abbrev pub opAdd : ℕ
+opAdd = 2
+
+abbrev pub opTake : ℕ
+opTake = 3
+
+abbrev pub isAddition : List ℕ → ℕ → ℕ → Bool
+isAddition book r p = let op = opAt (routineSteps book r) p in eqb op opAdd || eqb op opTake
+
+-- in a round from game g
+pub record CompletedOnce (book : List ℕ) (g : Game) : Type 0 where
+  -- of any set of steps at most as many are completed as the listed routines have
+  pub once : (set : ℕ → ℕ → Bool) → howMany (completes set) (historyOf book g) ≤ stepsIn book set (listedIn g)
+  -- so no step is completed twice
+  pub neverTwice : (r p : ℕ) → howMany (completes (theStep r p)) (historyOf book g) ≤ 1
+  -- so a round gives at most as many signals as its listed routines have signal steps,
+  pub signals : howMany givesSignal (historyOf book g) ≤ stepsIn book (isSignalStep book) (listedIn g)
+  -- writes at most as many marks as they have mark steps, and the buffer that 10 asks for holds them,
+  pub marks : length (marksIn (historyOf book g)) ≤ stepsIn book (isMarkStep book) (listedIn g)
+  pub space : numbersPerMark * length (marksIn (historyOf book g)) ≤ spaceFor book
+  -- gives at most 1,024 numbers, and 11 is never told,
+  pub numbers : numbersGiven (historyOf book g) ≤ mostNumbers
+  -- and adds to counters at most 1,024 times, the most steps that a book has
+  pub additions : howMany (completes (isAddition book)) (historyOf book g) ≤ mostSteps

@@ -1,0 +1,83 @@
+-- Demand 3: its four sentences stand over the fields of Demand3, and its words are read as document 01 says: "What do demand 3's words
+-- mean? They are read off book and game as lent, through the passes of rules 35 and 36 as read here."
+use Prim.Native.Nat.{ℕ, _+_, _≤_}
+use mathlib.Core.Path.{_≡_}
+use mathlib.Core.Bool.{Bool, true, false, _||_}
+use mathlib.Core.List.{List, _∷_, _++_}
+use mathlib.Core.Logic.{_⊎_}
+use lib.Dec.{eqb}
+use Rattle.kinds.specs.Steps.{opAt}
+use Rattle.book.specs.Book.{routineSteps}
+use Rattle.game.specs.declared.Game.{Game}
+use Rattle.game.specs.Game.{routineAt}
+use Rattle.game.specs.Game as stage
+use Rattle.round.specs.State.{Thing, signal, end, number, Happening, gave, ended, missing, past, marked, completed}
+use Rattle.round.specs.History.{stepsIn, howMany, Somewhere, Among}
+use Rattle.round.specs.Actions.{atStart}
+use Rattle.round.specs.Rounds.{listedIn, historyOf}
+
+-- "4 signal", "5 signal with number"
+abbrev pub opSignal : ℕ
+opSignal = 4
+
+abbrev pub opSignalNumber : ℕ
+opSignalNumber = 5
+
+-- "A signal step is one of op 4 or 5"
+abbrev pub isSignalOp : ℕ → Bool
+isSignalOp op = eqb op opSignal || eqb op opSignalNumber
+
+-- the step of routine r at place p is one
+abbrev pub isSignalStep : List ℕ → ℕ → ℕ → Bool
+isSignalStep book r p = isSignalOp (opAt (routineSteps book r) p)
+
+-- "it gives a signal each time a pass carries it out, repeated ones too, and broadcasts and end signals don't count"
+abbrev pub givesSignal : Happening → Bool
+givesSignal (gave e k) = true
+givesSignal (ended r) = false
+givesSignal (missing r p t) = false
+givesSignal (past r p t) = false
+givesSignal (marked r n) = false
+givesSignal (completed r p) = false
+
+-- "A routine ended in the round if a pass brought it to stage 3"
+abbrev pub endsRoutine : Happening → Bool
+endsRoutine (gave e k) = false
+endsRoutine (ended r) = true
+endsRoutine (missing r p t) = false
+endsRoutine (past r p t) = false
+endsRoutine (marked r n) = false
+endsRoutine (completed r p) = false
+
+-- "It comes later if, in the same round after that try, a step gives the signal, the joined routine ends, or the signal's k-th number is
+-- given."
+pub data Comes : Thing → Happening → Type 0 where
+  signalGiven : {e k : ℕ} → Comes (signal e) (gave e k)
+  routineEnded : {r : ℕ} → Comes (end r) (ended r)
+  numberGiven : {e k : ℕ} → Comes (number e k) (gave e k)
+
+-- "The routine is past the step once a later try in that round finds the thing and completes the step; a reading that rests isn't past.":
+-- of routine r, its step at place p and thing t, somewhere in a history
+pub data IsPast (r p : ℕ) (t : Thing) : List Happening → Type 0 where
+  here : {told : List Happening} → IsPast r p t (completed r p ∷ past r p t ∷ told)
+  later : {h : Happening} {told : List Happening} → IsPast r p t told → IsPast r p t (h ∷ told)
+
+-- Wherever in the history a try "finds its signal, the joined routine's end or the signal's k-th number missing", and the thing comes
+-- later, there the routine is past the step later.
+abbrev pub CatchesUp : List Happening → Type 0
+CatchesUp told =
+    (before after : List Happening) (r p : ℕ) (t : Thing) → told ≡ before ++ (missing r p t ∷ after) →
+    Somewhere (Comes t) after → IsPast r p t after
+
+-- a round from the game as lent: "Passes: the number in the round's answer.", and the game given back
+pub record Demand3 (book : List ℕ) (lent : Game) (passes : ℕ) (back : Game) : Type 0 where
+  -- passes ≤ 2 + signals given by steps + routines ended
+  pub fewPasses : passes ≤ 2 + howMany givesSignal (historyOf book lent) + howMany endsRoutine (historyOf book lent)
+  -- those signals ≤ the signal steps of the listed routines; "Listed, suspended: once the eight actions are done."
+  pub fewSignals : howMany givesSignal (historyOf book lent) ≤ stepsIn book (isSignalStep book) (listedIn lent)
+  -- at its end every listed routine that isn't suspended has rested or ended; "rested or ended is stage 2 or 3 in the game given back"
+  pub restedOrEnded :
+      (r : ℕ) → Among r (listedIn lent) → routineAt (atStart lent .game) r .suspended ≡ false →
+      (routineAt back r .stage ≡ stage.rested) ⊎ (routineAt back r .stage ≡ stage.ended)
+  -- each that found something missing which came later in that round went past that step in it
+  pub caughtUp : CatchesUp (historyOf book lent)

@@ -1,0 +1,67 @@
+-- The history of a round leaves nothing out and is true: what its states and turns say happened is told, as often as it happened, and a try
+-- finds its thing exactly if that was there from the start or came before.
+use Prim.Native.Nat.{ℕ, _+_}
+use mathlib.Core.Path.{_≡_}
+use mathlib.Core.Bool.{Bool, true, false}
+use mathlib.Core.List.{List, [], _∷_, _++_}
+use mathlib.Core.Logic.{_⊎_, _↔_}
+use lib.Dec.{eqb}
+use lib.ListN.{length}
+use Rattle.game.specs.declared.Game.{Game}
+use Rattle.game.specs.Game.{routineAt}
+use Rattle.game.specs.Game as stage
+use Rattle.round.specs.declared.Ending.the-variants.{Ended, Rested, Missed, Continued}
+use Rattle.round.specs.State.{Thing, Happening, gave, ended, missing, past, marked, completed, isThere}
+use Rattle.round.specs.History.{howMany, Somewhere, Among}
+use Rattle.round.specs.Actions.{kept, atStart}
+use Rattle.round.specs.Rounds.{Turn, passedOver, took, listedIn, round, historyOf}
+use Rattle.round.specs.Demand.{isSignalStep, givesSignal, endsRoutine, Comes}
+use Rattle.round.specs.Answers.{marksIn}
+use Rattle.round.specs.Completed.{completes, isMarkStep}
+
+-- a try finds its thing missing
+abbrev pub isMiss : Happening → Bool
+isMiss (gave e k) = false
+isMiss (ended r) = false
+isMiss (missing r p t) = true
+isMiss (past r p t) = false
+isMiss (marked r n) = false
+isMiss (completed r p) = false
+
+-- how many turns ended for want of a thing: to rest, or to be continued; that no turn is continued because its steps ran out is
+-- Enough.antt's claim
+unfoldable pub missesOf : List Turn → ℕ
+missesOf [] = 0
+missesOf (passedOver ∷ ts) = missesOf ts
+missesOf (took Ended ∷ ts) = missesOf ts
+missesOf (took Rested ∷ ts) = missesOf ts
+missesOf (took Missed ∷ ts) = missesOf ts + 1
+missesOf (took Continued ∷ ts) = missesOf ts + 1
+
+-- in a round from game g
+pub record ToldWhole (book : List ℕ) (g : Game) : Type 0 where
+  -- a signal for each signal step that is carried out
+  pub signals : howMany givesSignal (historyOf book g) ≡ howMany (completes (isSignalStep book)) (historyOf book g)
+  -- a mark for each mark step
+  pub marks : length (marksIn (historyOf book g)) ≡ howMany (completes (isMarkStep book)) (historyOf book g)
+  -- an end for each listed routine that is in stage 3 in the game given back, and for no other
+  pub ends :
+      (r : ℕ) → Among r (listedIn g) →
+      (routineAt (round book g .played .state .game) r .stage ≡ stage.ended) ↔ Somewhere (λ h. h ≡ ended r) (historyOf book g)
+  pub endings :
+      howMany endsRoutine (historyOf book g)
+      ≡ length (kept (λ r. eqb (routineAt (round book g .played .state .game) r .stage) stage.ended) (listedIn g))
+  -- a miss for each turn that came to a step whose thing was missing
+  pub misses : howMany isMiss (historyOf book g) ≡ missesOf (round book g .played .turns)
+  -- what comes is there, and what was not there and is there now has come
+  pub comes : (t : Thing) → Somewhere (Comes t) (historyOf book g) → isThere (round book g .played .state) t ≡ true
+  pub came :
+      (t : Thing) → isThere (atStart g) t ≡ false → isThere (round book g .played .state) t ≡ true →
+      Somewhere (Comes t) (historyOf book g)
+  -- for a try that goes past, its thing was there from the start or had come; for one that finds it missing, neither is so
+  pub found :
+      (before after : List Happening) (r p : ℕ) (t : Thing) → historyOf book g ≡ before ++ (past r p t ∷ after) →
+      (isThere (atStart g) t ≡ true) ⊎ Somewhere (Comes t) before
+  pub lacked :
+      (before after : List Happening) (r p : ℕ) (t : Thing) → historyOf book g ≡ before ++ (missing r p t ∷ after) →
+      (isThere (atStart g) t ≡ false) × (Somewhere (Comes t) before → ⊥)
