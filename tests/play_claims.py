@@ -14,8 +14,8 @@ each run of commands, proved by evaluation: the lines that they answer are the l
     order    ordered: its verdict; its game is the next one
     round    answer, with a buffer of zeros: verdict, passes, count of marks, marks, the rest of the buffer; its game is the next one
     log      of the last accepted round: its turns, each as the byte that stands for it
-    facts    of that round: its passes, the signals told as given, the routines told as ended, the signal steps of the routines that are
-             listed once the eight actions are done; that demand 3 held is not claimed, but the listed line must say so
+    facts    of that round, in the words of Demand.antt: its passes, signals given, routines ended, signal steps of the listed routines;
+             that demand 3 held is a theorem, and the listed line must say so
     dump     the game's fields
     poke     overwrites a field. The definitions' game holds no number below 0 and no flag but 0 and 1: a poke of such a value is skipped,
              and so is each order, round and dump until the field is overwritten; a skipped order or round must be listed with refusal 9
@@ -41,13 +41,13 @@ SCRIPT = """\
 use Prim.Native.Nat.{ℕ, zero, suc, _+_, _*_}
 use native.Mathlib.Omega.{arith}
 use mathlib.Core.Path.{_≡_, refl, _∙_, ap, subst}
-use mathlib.Core.Bool.{Bool, true, false, _&&_, _||_, not}
+use mathlib.Core.Bool.{Bool, true, false, _&&_, not}
 use mathlib.Core.List.{List, [], _∷_, _++_, map}
 use lib.Dec.{eqb, ltb}
 use lib.ListN.{length, getD, set, take, drop, replicate}
 use lib.IntN.{ℤ, pos}
 use Rattle.numbers.specs.Choice.{if_then_else_}
-use Rattle.kinds.specs.Steps.{opAt, stepAt}
+use Rattle.kinds.specs.Steps.{stepAt}
 use Rattle.book.specs.declared.Verdict.{Verdict}
 use Rattle.book.specs.Verdicts.{accepted, _orElse_, firstRefusal}
 use Rattle.book.specs.Layout.{mostRoutines, mostSignals, routinesOf, stepsOf, layoutVerdict, directoryVerdict}
@@ -62,12 +62,12 @@ use Rattle.orders.specs.declared.Outcome.{Outcome}
 use Rattle.orders.specs.SetUp.{unlessRefused, newGame, setUp}
 use Rattle.orders.specs.Orders.{fitVerdict, numberVerdict, orderVerdict, obeyed, ordered}
 use Rattle.round.specs.declared.Ending.the-variants.{Ended, Rested, Missed, Continued}
-use Rattle.round.specs.State.{Happening, gave, ended, missing, past, marked, completed}
 use Rattle.round.specs.Actions.{atStart}
-use Rattle.round.specs.Jumps.{sizeOf}
+use Rattle.round.specs.History.{stepsIn, howMany}
 use Rattle.round.specs.Rounds.{Turn, passedOver, took, round}
 use Rattle.round.specs.Rounds as rounds
 use Rattle.round.specs.Answers.{numbersPerMark, spaceVerdict, numbersVerdict, roundVerdict, Answer, turnedDown, playedOut, answer}
+use Rattle.round.specs.Demand.{isSignalStep, givesSignal, endsRoutine}
 
 -- A book's verdict, from those of its parts: the steps of a large book are claimed in slices.
 kept-accepted : (b : Bool) (v w u : Verdict) → (w ≡ accepted → u ≡ accepted) → (if b then w else v) ≡ accepted
@@ -247,27 +247,6 @@ turnByte (took Rested) = 2
 turnByte (took Missed) = 2
 turnByte (took Continued) = 3
 
--- what counts for facts: a signal given, and a routine ended
-abbrev tally : Happening → ℕ × ℕ
-tally (gave e k) = (1, 0)
-tally (ended r) = (0, 1)
-tally (missing r p t) = (0, 0)
-tally (past r p t) = (0, 0)
-tally (marked r n) = (0, 0)
-tally (completed r p) = (0, 0)
-
-unfoldable pub total : List ℕ → ℕ
-total [] = 0
-total (n ∷ ns) = n + total ns
-
--- the signal steps among the first n steps of a routine
-unfoldable pub signalSteps : List ℕ → ℕ → ℕ
-signalSteps steps zero = 0
-signalSteps steps (suc n) = signalSteps steps n + flag (eqb (opAt steps n) 4 || eqb (opAt steps n) 5)
-
-abbrev signalStepsOf : List ℕ → ℕ → ℕ
-signalStepsOf s r = signalSteps (routineSteps s r) (sizeOf (routineSteps s r))
-
 -- a line for each mark
 unfoldable pub markLines : List ℤ → Lines
 markLines [] = []
@@ -320,9 +299,9 @@ done Facts t =
       lines =
           line
           (t .last .passes
-          ∷ total (map (λ h. tally h .0) told)
-          ∷ total (map (λ h. tally h .1) told)
-          ∷ total (map (signalStepsOf (t .bookLent)) listed)
+          ∷ howMany givesSignal told
+          ∷ howMany endsRoutine told
+          ∷ stepsIn (t .bookLent) (isSignalStep (t .bookLent)) listed
           ∷ [])
           ∷ [];
       table = t;
@@ -351,7 +330,7 @@ played cs =
 """
 
 UNFOLDING = """\
-unfolding playedFrom numbersBelow routineLines total signalSteps markLines obeyed written marksIn countBelow round instant pass turn
+unfolding playedFrom numbersBelow routineLines markLines obeyed written marksIn countBelow stepsIn howMany round instant pass turn
     allDone ticks effectOn tick tickOf waitsFor fromEnd openingBefore pastPartner atStart each kept appended isThere isEndThere
     numbersWith newGame blankGame withStart fitsBook routineFits slotFits entryFits lineFits countersFit signalsFit isIn allBelow
     anyBelow bookVerdict layoutVerdict directoryVerdict stepsVerdict nestingVerdict pausingVerdict routineWalk routinePart routineOf
@@ -381,9 +360,9 @@ use Rattle.round.specs.Actions.{kept, each, atStart}
 use Rattle.round.specs.Jumps.{pastPartner, openingBefore, fromEnd}
 use Rattle.round.specs.Ticks.{waitsFor, tickOf, tick, effectOn}
 use Rattle.round.specs.Rounds.{ticks, allDone, turn, pass, instant, round}
-use Rattle.round.specs.History.{countBelow}
+use Rattle.round.specs.History.{countBelow, stepsIn, howMany}
 use Rattle.round.specs.Answers.{marksIn, written}
-use Rattle.round.specs.Script.{slices, stepIn, steps-verdict, book-verdict, numbersBelow, routineLines, total, signalSteps}
+use Rattle.round.specs.Script.{slices, stepIn, steps-verdict, book-verdict, numbersBelow, routineLines}
 use Rattle.round.specs.Script.{Command, Book, Read, Show, SetUp, Order, Round, Poke, PokeCounter, Log, Facts, Dump, Lines}
 use Rattle.round.specs.Script.{markLines, playedFrom, played}
 """
