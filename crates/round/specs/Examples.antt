@@ -1,19 +1,20 @@
--- Rounds of T3's book, by evaluation: the order of the refusals and what they hand back, what happens in a round, and the buffer beyond
--- the marks.
+-- Rounds by evaluation: the order of the refusals and what they hand back, what happens in a round of T3's book, the buffer beyond the
+-- marks, the place behind a rest that ends a first block, and steps that would not end.
 use Prim.Native.Nat.{ℕ}
 use mathlib.Core.Path.{_≡_, refl}
 use mathlib.Core.List.{List, [], _∷_, map}
 use lib.IntN.{ℤ, pos}
+use lib.ListN.{length}
 use Rattle.kinds.specs.Steps.{rowOf, decoded, stepAt}
 use Rattle.blocks.specs.Blocks.{viewAt, blockBy, stepOf, routineOf, partnerOf}
 use Rattle.book.specs.Verdicts.{refused, firstRefusal}
 use Rattle.book.specs.Layout.{layoutVerdict, stepsBefore, directoryVerdict}
-use Rattle.book.specs.Book.{countsOf, stepsVerdict, routinePart, routineWalk, nestingVerdict, pausingVerdict, bookVerdict}
-use Rattle.book.specs.Examples.{t3}
+use Rattle.book.specs.Book.{countsOf, routineSteps, stepsVerdict, routinePart, routineWalk, nestingVerdict, pausingVerdict, bookVerdict}
+use Rattle.book.specs.Examples.{step, joined, book, rest, t3}
 use Rattle.game.specs.declared.Game.{Game}
 use Rattle.game.specs.Below.{allBelow, anyBelow}
 use Rattle.game.specs.Lines.{isIn, appended}
-use Rattle.game.specs.Game.{blankGame, withStart}
+use Rattle.game.specs.Game.{routineAt, blankGame, withStart}
 use Rattle.game.specs.Fitting.{routineFits, slotFits, entryFits, lineFits, countersFit, signalsFit, fitsBook}
 use Rattle.orders.specs.SetUp.{newGame}
 use Rattle.round.specs.declared.Ending.the-variants.{Ended, Continued}
@@ -22,12 +23,28 @@ use Rattle.round.specs.History.{countBelow}
 use Rattle.round.specs.Actions.{kept, each, atStart}
 use Rattle.round.specs.Jumps.{pastPartner, openingBefore, fromEnd}
 use Rattle.round.specs.Ticks.{waitsFor, tickOf, tick, effectOn}
-use Rattle.round.specs.Rounds.{ticks, Turn, passedOver, took, allDone, turn, pass, instant, round}
+use Rattle.round.specs.Rounds.{Ticks, ticks, mostTicks, Turn, passedOver, took, allDone, ticksOf, turn, pass, instant, round}
 use Rattle.round.specs.Answers.{marksIn, written, roundVerdict, Answer, answer}
+
+-- a book's game from set-up
+abbrev pub first : List ℕ → Game
+first b = newGame (countsOf b)
 
 -- the game of T3 before its second round, in which it leaves its mark
 abbrev pub afterOne : Game
-afterOne = answer t3 (newGame (countsOf t3)) (pos 0 ∷ pos 0 ∷ []) .game
+afterOne = answer t3 (first t3) (pos 0 ∷ pos 0 ∷ []) .game
+
+-- "the place on the step that follows it in the book": if counter 0 equals 0, rest; else, rest
+abbrev pub restsInBoth : List ℕ
+restsInBoth = book (step 17 0 0 ∷ rest ∷ step 18 0 0 ∷ rest ∷ step 20 0 0 ∷ [])
+
+-- "an if that rests in one block": while counter 0 equals 0, if it equals 1, rest; else, nothing
+abbrev pub restsInOne : List ℕ
+restsInOne = book (step 19 0 0 ∷ step 17 0 1 ∷ rest ∷ step 18 0 0 ∷ step 20 0 0 ∷ step 20 0 0 ∷ [])
+
+-- the steps that its routine would take in a turn, if it were accepted
+abbrev pub stepsOn : Ticks
+stepsOn = ticksOf restsInOne 0 (atStart (first restsInOne))
 
 pub record Example : Type 0 where
   pub book : List ℕ
@@ -49,9 +66,10 @@ isTold book g buffer number =
 abbrev pub examples : List Example
 examples =
     isTold [] blankGame [] 1
+    ∷ isTold restsInOne (first restsInOne) [] 7
     ∷ isTold t3 blankGame [] 9
-    ∷ isTold t3 (newGame (countsOf t3)) [] 10
-    ∷ isTold t3 (newGame (countsOf t3)) (pos 5 ∷ []) 10
+    ∷ isTold t3 (first t3) [] 10
+    ∷ isTold t3 (first t3) (pos 5 ∷ []) 10
     ∷ []
 
 -- what T3's second round tells, and how each turn came out: routine 0 waits, routine 1 signals and ends, routine 0 goes past, marks and
@@ -65,15 +83,19 @@ told =
 abbrev pub turns : List Turn
 turns = took Continued ∷ took Ended ∷ took Ended ∷ passedOver ∷ []
 
--- and in an accepted round the mark (0, 7) stands at the buffer's start, and what is beyond it stays
+-- and in an accepted round the mark (0, 7) stands at the buffer's start, and what is beyond it stays; a rest at the end of a first block
+-- leaves the place on the else; and the steps of the while that does not pause run out, none of them the last
 pub as-told :
     (map (λ e. answer (e .book) (e .game) (e .buffer)) examples ≡ map (λ e. e .tells) examples)
     × (round t3 afterOne .played .told ≡ told)
     × (round t3 afterOne .played .turns ≡ turns)
     × (answer t3 afterOne (pos 5 ∷ pos 6 ∷ pos 8 ∷ []) .buffer ≡ pos 0 ∷ pos 7 ∷ pos 8 ∷ [])
+    × (routineAt (answer restsInBoth (first restsInBoth) [] .game) 0 .place ≡ 2)
+    × (stepsOn .ending ≡ Continued)
+    × (length (stepsOn .told) ≡ mostTicks (routineSteps restsInOne 0))
 unfolding answer roundVerdict written marksIn countBelow round instant pass turn allDone ticks effectOn tick tickOf waitsFor fromEnd
     openingBefore pastPartner atStart each kept appended isThere isEndThere numbersWith newGame blankGame withStart fitsBook routineFits
     slotFits entryFits lineFits countersFit signalsFit isIn allBelow anyBelow bookVerdict layoutVerdict directoryVerdict stepsVerdict
     nestingVerdict pausingVerdict routineWalk routinePart routineOf stepOf blockBy partnerOf viewAt stepAt decoded rowOf stepsBefore
-    firstRefusal
-as-told = (refl, refl, refl, refl)
+    firstRefusal joined
+as-told = (refl, refl, refl, refl, refl, refl, refl)
