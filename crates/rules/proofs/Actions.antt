@@ -24,6 +24,14 @@ unfolding zipWith
 zip-maps h f g [] = refl
 zip-maps h f g (x ∷ l) = ap (λ (m : List Bool). h (f x) (g x) ∷ m) (zip-maps h f g l)
 
+-- actions 2 and 3: once the events are replaced, there is term(t) for the threads to stop alone
+pub ends-same :
+    (xs : List Routine) →
+    zipWith _||_ (noFlags (map (λ x. x .suspended) xs)) (map (λ x. x .stopping) xs) ≡ map (λ x. x .stopping) xs
+ends-same xs =
+    ap (λ l. zipWith _||_ l (map (λ x. x .stopping) xs)) (map-map (λ b. false) (λ x. x .suspended) xs) ∙
+    zip-maps _||_ (λ x. false) (λ x. x .stopping) xs
+
 -- a change that gives one status gives it to each of them
 each-at :
     (k : Stage) (change : Routine → Routine) → ((x : Routine) → seen (change x) ≡ k) →

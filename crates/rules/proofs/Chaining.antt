@@ -17,7 +17,7 @@ use Rattle.rules.specs.Instructions.{CONT}
 use Rattle.rules.specs.Schedulers.{is}
 use Rattle.rules.specs.Instants.{allAt, chained, unmoved}
 use Rattle.rules.specs.View.{view}
-use Rattle.rules.proofs.Actions.{status₃, actual₆, order-same, status-same, flag-cleared, suspended-same}
+use Rattle.rules.proofs.Actions.{status₃, actual₆, order-same, status-same, flag-cleared, suspended-same, ends-same}
 
 none-same : {A B : Type 0} (b : B) (l : List A) → map (λ x. b) l ≡ replicate (length l) b
 none-same b [] = refl
@@ -41,7 +41,7 @@ chains book s ms range z f =
     λ i.
     record {
       actual = actual i;
-      current = record { events = g .broadcast; terms = map (λ x. x .stopping) xs; values = []; eoi = false; move = false };
+      current = record { events = g .broadcast; terms = ends-same xs i; values = []; eoi = false; move = false };
       orders =
           record {
             toBroadcast = broadcast i;

@@ -5,11 +5,11 @@ use mathlib.Core.Bool.{Bool, true, false, _&&_, _||_, not}
 use mathlib.Core.List.{List, [], _∷_, _++_, map, zipWith}
 use mathlib.Core.Logic.{_≢_, _⊎_}
 use lib.Dec.{eqb}
-use lib.ListN.{getD, set}
+use lib.ListN.{set}
 use Rattle.numbers.specs.Choice.{if_then_else_}
 use Rattle.rules.specs.Instructions.{Status, TERM, COOP, CONT, term, Instruction}
-use Rattle.rules.specs.Schedulers.{Stage, notStarted, is, stopped, Scheduler, withCurrent, withThreads, has, statusOf, isTerminated}
-use Rattle.rules.specs.Schedulers.{moved, withEvent}
+use Rattle.rules.specs.Schedulers.{Stage, notStarted, is, stopped, Scheduler, withActual, withCurrent, withOrders, withThreads}
+use Rattle.rules.specs.Schedulers.{has, statusOf, isTerminated, moved, withEvent}
 use Rattle.rules.specs.Rules.{⟨_&_⟩⟶[_]⟨_&_⟩}
 
 -- t[run := inst], for the instructions of all threads
@@ -98,54 +98,81 @@ isUnderWay stopped = false
 abbrev pub noFlags : List Bool → List Bool
 noFlags l = map (λ b. false) l
 
--- 5.4: Next(sched), the eight actions in sequence. Those that touch the list of threads or their status are chained; each of the others
--- touches a component of its own.
-unfoldable pub chained : Scheduler → Scheduler
-chained σ =
+-- t.status of all threads; t.susp of all threads
+abbrev pub withStatuses : Scheduler → List Stage → Scheduler
+withStatuses σ l = withThreads σ (record { status = l; susp = σ .threads .susp })
+
+abbrev pub withSusp : Scheduler → List Bool → Scheduler
+withSusp σ l = withThreads σ (record { status = σ .threads .status; susp = l })
+
+-- 5.4 Chaining Instants, action 1: "concatenate to_start to actual"; document 01: "Starting gives stage 1."
+abbrev pub action1 : Scheduler → Scheduler
+action1 σ =
+    let starts = σ .orders .toStart in
+    withStatuses (withActual σ (σ .actual ++ starts)) (allAt (is CONT) starts (σ .threads .status))
+
+-- Action 2: "replace events by to_broadcast"; so term(t) is there for no thread t
+abbrev pub action2 : Scheduler → Scheduler
+action2 σ =
+    withCurrent σ (
+    let c = σ .current in
+    record { events = σ .orders .toBroadcast; terms = noFlags (σ .threads .susp); values = c .values; eoi = c .eoi; move = c .move }
+    )
+
+-- Action 3: "remove elements of to_stop from actual; moreover, for each t ∈ to_stop, add event term(t) to events"; document 01: "Stopping
+-- gives stage 4 to a listed routine in stage 1 or 2 and to no other. The end signal of each routine in the stop set is present in the new
+-- round either way."
+abbrev pub action3 : Scheduler → Scheduler
+action3 σ =
+    let toStop = σ .orders .toStop in
+    let stops = only (λ t. has toStop t && isUnderWay (statusOf σ t)) (σ .actual) in
+    let others = only (λ t. not (has toStop t)) (σ .actual) in
+    withCurrent (withStatuses (withActual σ others) (allAt stopped stops (σ .threads .status))) (
+    let c = σ .current in
+    record { events = c .events; terms = zipWith _||_ (c .terms) toStop; values = c .values; eoi = c .eoi; move = c .move }
+    )
+
+-- Action 4: "for each t ∈ to_resume, set t.susp to false"
+abbrev pub action4 : Scheduler → Scheduler
+action4 σ = withSusp σ (zipWith (λ s r. s && not r) (σ .threads .susp) (σ .orders .toResume))
+
+-- Action 5: "for each t ∈ to_suspend, set t.susp to true"
+abbrev pub action5 : Scheduler → Scheduler
+action5 σ = withSusp σ (zipWith _||_ (σ .threads .susp) (σ .orders .toSuspend))
+
+-- Action 6: "for each thread t ∈ actual, remove it if t.status is TERM, and otherwise set t.status to CONT"
+abbrev pub action6 : Scheduler → Scheduler
+action6 σ =
+    let others = only (λ t. not (isTerminated (statusOf σ t))) (σ .actual) in
+    withStatuses (withActual σ others) (allAt (is CONT) others (σ .threads .status))
+
+-- Action 7: "set the flag eoi to false"
+abbrev pub action7 : Scheduler → Scheduler
+action7 σ =
+    withCurrent σ (
+    let c = σ .current in
+    record { events = c .events; terms = c .terms; values = c .values; eoi = false; move = c .move }
+    )
+
+-- Action 8: "reset to_start, to_broadcast, to_stop, to_resume, to_suspend, and values to empty"
+abbrev pub action8 : Scheduler → Scheduler
+action8 σ =
     let o = σ .orders in
-    let at : List Stage → ℕ → Stage = λ l t. getD l t notStarted in
-    -- 1. "concatenate to_start to actual"; document 01: "Starting gives stage 1."
-    let actual₁ = σ .actual ++ o .toStart in
-    let status₁ = allAt (is CONT) (o .toStart) (σ .threads .status) in
-    -- 3. "remove elements of to_stop from actual"; document 01: "Stopping gives stage 4 to a listed routine in stage 1 or 2 and to no
-    -- other."
-    let actual₃ = only (λ t. not (has (o .toStop) t)) actual₁ in
-    let status₃ = allAt stopped (only (λ t. has (o .toStop) t && isUnderWay (at status₁ t)) actual₁) status₁ in
-    -- 6. "for each thread t ∈ actual, remove it if t.status is TERM, and otherwise set t.status to CONT"
-    let actual₆ = only (λ t. not (isTerminated (at status₃ t))) actual₃ in
+    let c = σ .current in
+    withOrders (withCurrent σ (record { events = c .events; terms = c .terms; values = []; eoi = c .eoi; move = c .move })) (
     record {
-      actual = actual₆;
-      current =
-          record {
-            -- 2. "replace events by to_broadcast"
-            events = o .toBroadcast;
-            -- 3. "for each t ∈ to_stop, add event term(t) to events"; document 01: "The end signal of each routine in the stop set is
-            -- present in the new round either way."
-            terms = o .toStop;
-            -- 8.
-            values = [];
-            -- 7. "set the flag eoi to false"
-            eoi = false;
-            move = σ .current .move;
-          };
-      -- 8. "reset to_start, to_broadcast, to_stop, to_resume, to_suspend, and values to empty"
-      orders =
-          record {
-            toBroadcast = noFlags (o .toBroadcast);
-            toStart = [];
-            toStop = noFlags (o .toStop);
-            toSuspend = noFlags (o .toSuspend);
-            toResume = noFlags (o .toResume);
-          };
-      threads =
-          record {
-            status = allAt (is CONT) actual₆ status₃;
-            -- 4. and 5. "for each t ∈ to_resume, set t.susp to false", "for each t ∈ to_suspend, set t.susp to true"; document 01: "so a
-            -- resume comes before a suspend"
-            susp = zipWith _||_ (zipWith (λ s r. s && not r) (σ .threads .susp) (o .toResume)) (o .toSuspend);
-          };
-      env = σ .env;
+      toBroadcast = noFlags (o .toBroadcast);
+      toStart = [];
+      toStop = noFlags (o .toStop);
+      toSuspend = noFlags (o .toSuspend);
+      toResume = noFlags (o .toResume);
     }
+    )
+
+-- Next(sched): "the scheduler obtained from sched by performing the following actions in sequence"; document 01: "so a resume comes
+-- before a suspend"
+unfoldable pub chained : Scheduler → Scheduler
+chained σ = action8 (action7 (action6 (action5 (action4 (action3 (action2 (action1 σ)))))))
 
 -- Document 01: "The move flag is clear when a round's first pass begins, as section 3.2 says; rules 37 and 38 alone would carry it over. A
 -- signal given by a step and a routine's end in a pass each set it, and nothing else does, the eight actions included."

@@ -49,6 +49,9 @@ pub record Scheduler : Type 0 where
   pub threads : Threads
   pub env : Environment
 
+abbrev pub withActual : Scheduler → List ℕ → Scheduler
+withActual σ x = record { actual = x; current = σ .current; orders = σ .orders; threads = σ .threads; env = σ .env }
+
 abbrev pub withCurrent : Scheduler → Current → Scheduler
 withCurrent σ x = record { actual = σ .actual; current = x; orders = σ .orders; threads = σ .threads; env = σ .env }
 
