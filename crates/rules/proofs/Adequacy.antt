@@ -1,11 +1,13 @@
 -- The game, the marks and the passes of an accepted round are those that the rules give, and no others. That the answer is accepted says
 -- that the game fits; the rest is what is shown of the round that it has played.
-use Prim.Native.Nat.{ℕ, _<_}
+use Prim.Native.Nat.{ℕ, _*_, _≤_, _<_}
 use mathlib.Core.Path.{_≡_, refl, sym, ap, _∙_, subst}
 use mathlib.Core.List.{List, []}
 use mathlib.Core.Logic.{dite}
 use native.Mathlib.Bridge.{le-prop}
 use native.Mathlib.Decide.{decLt}
+use native.Mathlib.Omega.{arith}
+use lib.ListN.{length, drop}
 use lib.IntN.{ℤ}
 use Rattle.book.specs.declared.Verdict.{Verdict}
 use Rattle.book.specs.Verdicts.{accepted}
@@ -17,12 +19,14 @@ use Rattle.round.specs.declared.Position.{Position}
 use Rattle.round.specs.State.{State}
 use Rattle.round.specs.Actions.{positionOf}
 use Rattle.round.specs.Rounds.{round}
-use Rattle.round.specs.Answers.{marksIn, answer}
+use Rattle.round.specs.Answers.{marksIn, numbersPerMark, answer}
 use Rattle.round.proofs.Telling.{round-tells, answer-verdict, played-out, told-playable}
+use Rattle.round.proofs.Once.{completed-once}
 use Rattle.rules.specs.Instructions.{Instruction, nothing}
 use Rattle.rules.specs.Residual.{residual, _⇝_, same}
 use Rattle.rules.specs.Claims.{Stands, threadsOf, ByTheRules}
 use Rattle.rules.proofs.Rounds.{round-counts, round-given}
+use Rattle.rules.proofs.Buffers.{written-marks, written-beyond, written-length}
 
 module _ (book : List ℕ) (a : Accepted book) where
   pub answer-by-the-rules :
@@ -34,17 +38,21 @@ module _ (book : List ℕ) (a : Accepted book) where
       let h = ap (λ (v : Verdict). v .number) (sym (answer-verdict book g buffer) ∙ e) in
       let (b, fits, space, few) = told-playable (round-tells book g buffer) h in
       let (run′, given, stands) = round-given book a run s [] z fits stand in
+      let marks = marksIn (round book g .played .told) in
+      let room : numbersPerMark * length marks ≤ length buffer = omega (arith, space, completed-once book a g z fits .space) in
       rw (played-out book g buffer h) (
       record {
         last = round book g .played .state;
-        marks = marksIn (round book g .played .told);
+        marks = marks;
         run′ = run′;
         given = given;
         game = refl;
         counts = round-counts book a g z fits;
         stands = stands;
         counted = refl;
-        buffered = refl;
+        buffered = written-marks marks (drop (numbersPerMark * length marks) buffer);
+        beyond = written-beyond marks (drop (numbersPerMark * length marks) buffer);
+        sameLength = written-length marks buffer room;
       }
       )
 

@@ -7,8 +7,9 @@ use mathlib.Core.Bool.{Bool}
 use mathlib.Core.List.{List, _∷_}
 use mathlib.Core.Logic.{inl, inr}
 use native.Mathlib.Omega.{arith}
-use Rattle.rules.specs.Instructions.{Status, TERM, Event, Instruction, awaitN}
-use Rattle.rules.specs.Schedulers.{Scheduler}
+use Rattle.numbers.proofs.Sums.{adds-up-once}
+use Rattle.rules.specs.Instructions.{Status, TERM, Event, Call, Instruction, awaitN}
+use Rattle.rules.specs.Schedulers.{Scheduler, Called, writes, becomes, adds, takes}
 use Rattle.rules.specs.Rules.{⟨_&_⟩⟶[_]⟨_&_⟩, rule1, rule2, rule3, rule4, rule5, rule6, rule7, rule8, rule9, rule10, rule11, rule12}
 use Rattle.rules.specs.Rules.{rule13, rule14, rule15, rule16, rule17, rule18, rule18-again, rule19, rule20, rule21, rule22, rule23}
 use Rattle.rules.specs.Rules.{rule24, rule25, rule26, rule27, rule28, rule29, rule29-again, rule30, rule31, rule32}
@@ -27,11 +28,18 @@ expired (rule25 x) h = refl
 expired (rule26 x u v) h = absurd (omega arith)
 expired (rule27 x u v) h = absurd (omega arith)
 
+-- a call leads to one scheduler, since a sum is one number
+same-call : {c : Call} {σ τ υ ω : Scheduler} → Called c σ τ → Called c υ ω → σ ≡ υ → τ ≡ ω
+same-call writes writes e = cc
+same-call becomes becomes e = cc
+same-call (adds a) (adds b) e = let h = adds-up-once a in let g = adds-up-once b in cc
+same-call (takes a) (takes b) e = let h = adds-up-once a in let g = adds-up-once b in cc
+
 same-result :
     {i j k : Instruction} {σ τ υ ω : Scheduler} {α β : Status} →
     ⟨ i & σ ⟩⟶[ α ]⟨ j & τ ⟩ → ⟨ i & υ ⟩⟶[ β ]⟨ k & ω ⟩ → σ ≡ υ →
     gives α j τ ≡ gives β k ω
-same-result rule1 rule1 e = cc
+same-result (rule1 a) (rule1 b) e = let h = same-call a b e in cc
 same-result rule2 rule2 e = cc
 same-result (rule3 a c) (rule3 b d) e = let h = same-result a b e in same-result c d (cc)
 same-result (rule3 a c) (rule4 b m) e = let h = same-result a b e in absurd (m (cc))

@@ -26,9 +26,9 @@ use Rattle.round.specs.State.{State, withGame}
 use Rattle.round.specs.Ticks.{effectOn, mostNumbers}
 use Rattle.round.proofs.Maps.{map-set}
 use Rattle.round.proofs.Entries.{pushed-entries}
-use Rattle.rules.specs.Instructions.{signal, mark}
-use Rattle.rules.specs.Schedulers.{Stage, Scheduler, isAmong, statusOf, isNotStarted, moved, withEvent, withValue, put, called}
-use Rattle.rules.specs.Schedulers.{withOrders, withThreads, withStart, withStop, withSuspend, withResume}
+use Rattle.rules.specs.Instructions.{signal}
+use Rattle.rules.specs.Schedulers.{Stage, Scheduler, isAmong, statusOf, isNotStarted, moved, withEvent, withValue, put}
+use Rattle.rules.specs.Schedulers.{withMark, withOrders, withThreads, withStart, withStop, withSuspend, withResume}
 use Rattle.rules.specs.View.{view}
 use Rattle.rules.proofs.Walks.{Marks, Fine}
 use Rattle.rules.proofs.Stages.{seen, not-started-view}
@@ -57,7 +57,7 @@ module _ (s : State) (ms : Marks) where
   unfolding effectOn
   nothing-view = refl
 
-  pub mark-view : (r : ℕ) (n : ℤ) → view (effectOn (Mark n) s) (ms ++ ((r, n) ∷ [])) ≡ called (mark r n) (view s ms)
+  pub mark-view : (r : ℕ) (n : ℤ) → view (effectOn (Mark n) s) (ms ++ ((r, n) ∷ [])) ≡ withMark r n (view s ms)
   unfolding effectOn view
   mark-view r n = refl
 

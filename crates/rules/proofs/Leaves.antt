@@ -11,6 +11,7 @@ use native.Mathlib.Numerals.{add-one}
 use borrow.Author.Tests.{eqb-true, eqb-false}
 use lib.Dec.{eqb}
 use Rattle.numbers.specs.Numbers.{sumOf}
+use Rattle.numbers.proofs.Sums.{adds-up}
 use Rattle.book.specs.Layout.{mostRoutines}
 use Rattle.kinds.specs.declared.Kind.{Kind}
 use Rattle.kinds.specs.declared.Kind.the-variants as kind
@@ -37,7 +38,7 @@ use Rattle.round.specs.Answers.{marksIn}
 use Rattle.round.proofs.Forms.{leaf-there}
 use Rattle.round.proofs.Fields.{FieldsRight, fields-right}
 use Rattle.rules.specs.Instructions.{TERM, nothing}
-use Rattle.rules.specs.Schedulers.{Scheduler, returned}
+use Rattle.rules.specs.Schedulers.{Scheduler, writes, becomes, adds, takes, returned}
 use Rattle.rules.specs.Rules.{⟨_&_⟩⟶[_]⟨_&_⟩, rule1, rule11, rule12, rule13, rule19, rule20, rule21, rule22, rule23, rule24, rule25}
 use Rattle.rules.specs.Rules.{rule28, rule30, rule31, rule32}
 use Rattle.rules.specs.Residual.{instruction}
@@ -157,14 +158,15 @@ module _ (counts : Counts) (r : ℕ) (steps : List ℕ) where
       (k : Kind) → Leaf (formOf k) → FieldsRight counts k → counts .routines ≤ mostRoutines →
       (x : Position) (s : State) (ms : Marks) → ByRule k x s ms (tickOf r steps x s k)
   unfolding tickOf view marksIn
-  leaf-by-rule (kind.Mark n) l b few x s ms = (add-one (x .place), λ f g. rw mark-view rule1)
-  leaf-by-rule (kind.Set c n) l b few x s ms = changes (kind.Set c n) x s ms (Put c n) (λ f g. count-view s ms c n) rule1
+  leaf-by-rule (kind.Mark n) l b few x s ms = (add-one (x .place), λ f g. rw mark-view (rule1 writes))
+  leaf-by-rule (kind.Set c n) l b few x s ms = changes (kind.Set c n) x s ms (Put c n) (λ f g. count-view s ms c n) (rule1 becomes)
   leaf-by-rule (kind.Add c n) l b few x s ms =
-      let sum = sumOf (counterAt (s .game) c) n in
-      changes (kind.Add c n) x s ms (Add c sum) (λ f g. add-view s ms c sum) rule1
+      let v = counterAt (s .game) c in
+      changes (kind.Add c n) x s ms (Add c (sumOf v n)) (λ f g. add-view s ms c (sumOf v n)) (rule1 (adds (adds-up v n)))
   leaf-by-rule (kind.Take c d) l b few x s ms =
-      let sum = sumOf (counterAt (s .game) c) (counterAt (s .game) d) in
-      changes (kind.Take c d) x s ms (Add c sum) (λ f g. add-view s ms c sum) rule1
+      let v = counterAt (s .game) c in
+      let n = counterAt (s .game) d in
+      changes (kind.Take c d) x s ms (Add c (sumOf v n)) (λ f g. add-view s ms c (sumOf v n)) (rule1 (takes (adds-up v n)))
   leaf-by-rule (kind.Signal e) l b few x s ms = changes (kind.Signal e) x s ms (Give e) (λ f g. give-view s ms e) rule12
   leaf-by-rule (kind.SignalNumber e c) l b few x s ms =
       let v = counterAt (s .game) c in

@@ -17,4 +17,5 @@ pub mod Told
 pub mod Seen
 pub mod Passes
 pub mod Rounds
+pub mod Buffers
 pub mod Adequacy

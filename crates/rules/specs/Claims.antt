@@ -1,18 +1,18 @@
 -- What is claimed of a round as defined: the rules give it, and no other.
 use Prim.Native.Nat.{ℕ, _<_, _*_}
 use mathlib.Core.Path.{_≡_}
-use mathlib.Core.List.{List, [], _++_}
+use mathlib.Core.List.{List, [], _∷_}
 use mathlib.Core.Logic.{dite}
 use native.Mathlib.Decide.{decLt}
-use lib.ListN.{length, drop}
-use lib.IntN.{ℤ}
+use lib.ListN.{length, getD, take, drop}
+use lib.IntN.{ℤ, pos}
 use Rattle.book.specs.Layout.{routinesOf}
 use Rattle.book.specs.Accepted.{Accepted}
 use Rattle.game.specs.declared.Game.{Game}
 use Rattle.game.specs.Game.{routineAt}
 use Rattle.round.specs.State.{State}
 use Rattle.round.specs.Actions.{positionOf}
-use Rattle.round.specs.Answers.{numbersPerMark, written, Answer}
+use Rattle.round.specs.Answers.{numbersPerMark, Answer}
 use Rattle.rules.specs.Instructions.{Instruction, nothing}
 use Rattle.rules.specs.Schedulers.{Scheduler}
 use Rattle.rules.specs.Instants.{Round}
@@ -50,4 +50,12 @@ module _ (book : List ℕ) (a : Accepted book) where
     pub counts : answer .game .counts ≡ s .game .counts
     pub stands : Stands run′ (answer .game)
     pub counted : answer .marks ≡ length marks
-    pub buffered : answer .buffer ≡ written marks ++ drop (numbersPerMark * length marks) buffer
+    -- "writes a mark: routine, n", "two to a mark", "in the order made": those of the i-th mark, counted from 0, are the buffer's numbers
+    -- at 2 i and 2 i + 1
+    pub buffered :
+        (i : ℕ) → i < length marks →
+        let mark = getD marks i (0, pos 0) in
+        take numbersPerMark (drop (numbersPerMark * i) (answer .buffer)) ≡ pos (mark .0) ∷ mark .1 ∷ []
+    -- "the buffer beyond the marks is untouched"
+    pub beyond : drop (numbersPerMark * length marks) (answer .buffer) ≡ drop (numbersPerMark * length marks) buffer
+    pub sameLength : length (answer .buffer) ≡ length buffer

@@ -10,7 +10,7 @@ use Rattle.rules.specs.Instructions.{Status, TERM, COOP, CONT, Event, si
 use Rattle.rules.specs.Instructions.{_then_, while, whileInst, ifElse, cooperate, await, generate, generateValue, join, create, stop}
 use Rattle.rules.specs.Instructions.{suspend, resume, cooperateN, awaitN, joinN, getValue}
 use Rattle.rules.specs.Schedulers.{Scheduler, statusOf, isTerminated, isPresent, moved, withEvent, withValue, valuesOf, content}
-use Rattle.rules.specs.Schedulers.{called, returned, withStart, withStop, withSuspend, withResume}
+use Rattle.rules.specs.Schedulers.{Called, returned, withStart, withStop, withSuspend, withResume}
 
 -- the expression is true in the environment; it changes nothing there
 abbrev pub IsTrue : Expression → Scheduler → Type 0
@@ -32,7 +32,7 @@ Unterminated t σ = isTerminated (statusOf σ t) ≡ false
 infix 1 ⟨_&_⟩⟶[_]⟨_&_⟩
 pub data ⟨_&_⟩⟶[_]⟨_&_⟩ : Instruction → Scheduler → Status → Instruction → Scheduler → Type 0 where
   -- 4.1 Call
-  rule1 : {c : Call} {σ : Scheduler} → ⟨ call c & σ ⟩⟶[ TERM ]⟨ nothing & called c σ ⟩
+  rule1 : {c : Call} {σ σ′ : Scheduler} → Called c σ σ′ → ⟨ call c & σ ⟩⟶[ TERM ]⟨ nothing & σ′ ⟩
   rule2 : {σ : Scheduler} → ⟨ nothing & σ ⟩⟶[ TERM ]⟨ nothing & σ ⟩
   -- 4.2 Sequence
   rule3 :

@@ -7,7 +7,7 @@ use lib.Dec.{eqb}
 use lib.ListN.{getD, set}
 use lib.IntN.{ℤ, pos}
 use Rattle.numbers.specs.Choice.{if_then_else_}
-use Rattle.numbers.specs.Numbers.{sumOf}
+use Rattle.numbers.specs.Sums.{AddsUp}
 use Rattle.rules.specs.Instructions.{Status, TERM, COOP, CONT, Event, signal, term, Call, mark, set as set-to, add, take}
 
 -- a thread's status; document 01 also knows threads that are not started and threads that were stopped: stages 0 and 4
@@ -142,13 +142,19 @@ content σ c = getD (σ .env .counters) c (pos 0)
 abbrev pub put : ℕ → ℤ → Scheduler → Scheduler
 put c v σ = withEnv σ (record { counters = set (σ .env .counters) c v; marks = σ .env .marks })
 
--- env′ of rule 1: "writes a mark: routine, n", "counter becomes n; n is added", "b's content is added to a". A sum is what AddsUp of
--- crates/numbers says it is.
-abbrev pub called : Call → Scheduler → Scheduler
-called (mark r n) σ = withEnv σ (record { counters = σ .env .counters; marks = σ .env .marks ++ ((r, n) ∷ []) })
-called (set-to c n) σ = put c n σ
-called (add c n) σ = put c (sumOf (content σ c) n .sum) σ
-called (take c d) σ = put c (sumOf (content σ c) (content σ d) .sum) σ
+-- one more mark
+abbrev pub withMark : ℕ → ℤ → Scheduler → Scheduler
+withMark r n σ = withEnv σ (record { counters = σ .env .counters; marks = σ .env .marks ++ ((r, n) ∷ []) })
+
+-- env and env′ of rule 1, for each call
+pub data Called : Call → Scheduler → Scheduler → Type 0 where
+  -- "writes a mark: routine, n"
+  writes : {r : ℕ} {n : ℤ} {σ : Scheduler} → Called (mark r n) σ (withMark r n σ)
+  -- "counter becomes n; n is added"
+  becomes : {c : ℕ} {n : ℤ} {σ : Scheduler} → Called (set-to c n) σ (put c n σ)
+  adds : {c : ℕ} {n v : ℤ} {σ : Scheduler} → AddsUp (content σ c) n v → Called (add c n) σ (put c v σ)
+  -- "b's content is added to a"
+  takes : {c d : ℕ} {v : ℤ} {σ : Scheduler} → AddsUp (content σ c) (content σ d) v → Called (take c d) σ (put c v σ)
 
 -- env′ of rule 30, "transformed by the return of the value": "the k-th number goes to b"
 abbrev pub returned : ℕ → ℕ → ℕ → Scheduler → Scheduler
