@@ -121,7 +121,7 @@ turn-untouched book r s = ticks-untouched (countsOf book) r (routineSteps book r
 
 module _ (counts : Counts) (r : ℕ) (steps : List ℕ) (fewSignals : counts .signals ≤ mostSignals) where
   -- a step that goes on
-  goes-carries :
+  pub goes-carries :
       (x : Position) (s : State) (e : Effect) (told : List Happening) → Right counts s e → Says counts r steps x s e told →
       Carries s (completed r (x .place) ∷ told) (effectOn e s)
   unfolding howMany

@@ -76,9 +76,9 @@ module _
     unfolding howMany
     ticks-pay =
         ticks-by (countsOf book) r steps (λ x s t. howMany test (t .told) + leftBehind (t .ending) (left r (t .position)) ≤ left r x)
-        (λ x s q e told t leaves right says rest.
+        (λ x s q e told t same leaves right says rest.
         omega (arith, many-append test (completed r (x .place) ∷ told) (t .told), goes x s q e told leaves says, rest))
-        (λ x s how y told stays stops. stops-pay x s how y told stops) (λ x s. omega arith)
+        (λ x s how y told same stays stops. stops-pay x s how y told stops) (λ x s. omega arith)
 
     pays : (s : State) → howMany test (turn book r s .told) + worth left r (turn book r s .state) ≤ worth left r s
     unfolding howMany

@@ -58,7 +58,7 @@ module _ (counts : Counts) (r : ℕ) (steps : List ℕ) where
   unfolding howMany
   shaped =
       ticks-in-time counts r steps (λ x s t. Shape counts r steps t)
-      (λ x s q e told t leaves right says others.
+      (λ x s q e told t same leaves right says others.
       let noMiss = says-none isMiss (λ n. refl) (λ a k. refl) (λ a. refl) says in
       let noEnd = says-none endsRoutine (λ n. refl) (λ a k. refl) (λ a. refl) says in
       record {
@@ -70,5 +70,5 @@ module _ (counts : Counts) (r : ℕ) (steps : List ℕ) where
         stops = others .stops;
         history = rw (others .history, append-assoc);
       })
-      (λ x s how y told stays stops.
+      (λ x s how y told same stays stops.
       record { before = []; noMiss = refl; noEnd = refl; last = x; lastTold = told; stops = stops; history = refl })

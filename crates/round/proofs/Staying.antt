@@ -147,9 +147,9 @@ module _ (book : List ℕ) (a : Accepted book) where
     ticks-stay =
         ticks-by (countsOf book) r steps
         (λ x s t. Stands (countsOf book) steps x → Sound book s → Stands (countsOf book) steps (t .position) × Sound book (t .state))
-        (λ x s q e told t leaves right says rest stand h.
+        (λ x s q e told t same leaves right says rest stand h.
         rest (fresh-stands (countsOf book) steps q (leaves-inside x q leaves)) (effect-sound book a s e right h))
-        (λ x s how y told stays stops stand h. (stays stand, h))
+        (λ x s how y told same stays stops stand h. (stays stand, h))
         (λ x s stand h. (stand, h))
 
   pub turn-sound : (r : ℕ) (s : State) → r < routinesOf book → Sound book s → Sound book (turn book r s .state)

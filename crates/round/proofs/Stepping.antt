@@ -1,6 +1,7 @@
 -- What holds of each step, by what it comes to, holds of a turn's steps: for any claim on where they begin and what they come to, and so
 -- for any claim on two states and what is told between them that holds of one after the other. By induction on the steps allowed.
 use Prim.Native.Nat.{ℕ, zero, suc}
+use mathlib.Core.Path.{_≡_, refl}
 use mathlib.Core.List.{List, [], _∷_, _++_}
 use Rattle.kinds.specs.declared.Counts.{Counts}
 use Rattle.round.specs.declared.Ending.{Ending}
@@ -10,7 +11,7 @@ use Rattle.round.specs.declared.Effect.{Effect}
 use Rattle.round.specs.declared.Act.{Act}
 use Rattle.round.specs.declared.Act.the-variants.{Goes, Halts}
 use Rattle.round.specs.State.{State, Happening, completed}
-use Rattle.round.specs.Ticks.{tick, fresh, effectOn}
+use Rattle.round.specs.Ticks.{telling, tick, fresh, effectOn}
 use Rattle.round.specs.Rounds.{Ticks, follow, ticks}
 use Rattle.round.specs.Enough.{IfItGoesOn, InTime}
 use Rattle.round.proofs.Leads.{Leaves}
@@ -28,10 +29,12 @@ module _ (counts : Counts) (r : ℕ) (steps : List ℕ) where
   module _
       (Claim : Position → State → Ticks → Type 0)
       (goes :
-      (x : Position) (s : State) (q : ℕ) (e : Effect) (told : List Happening) (t : Ticks) → Leaves counts steps x q → Right counts s e →
+      (x : Position) (s : State) (q : ℕ) (e : Effect) (told : List Happening) (t : Ticks) →
+      tick counts r steps x s ≡ telling (Goes q e) told → Leaves counts steps x q → Right counts s e →
       Says counts r steps x s e told → Claim (fresh q) (effectOn e s) t → Claim x s (onto r (x .place) told t))
       (halts :
       (x : Position) (s : State) (how : Ending) (y : Position) (told : List Happening) →
+      tick counts r steps x s ≡ telling (Halts how y) told →
       (Stands counts steps x → Stands counts steps y) → Stops counts r steps x s how y told → Claim x s (ending how y s told))
     where
       -- with n steps allowed, of which something is known that stays known of those behind a step
@@ -45,18 +48,19 @@ module _ (counts : Counts) (r : ℕ) (steps : List ℕ) where
           known-by zero x s h = none x s h
           known-by (suc n) x s h =
               let t = tick counts r steps x s in
-              behind (t .act) (t .told) (sorted counts r steps x s) (later n x s h) (λ q u. known-by n (fresh q) u)
+              behind (t .act) (t .told) refl (sorted counts r steps x s) (later n x s h) (λ q u. known-by n (fresh q) u)
             where
               rest : ℕ → State → Ticks
               rest q u = ticks n counts r steps (fresh q) u
 
               behind :
-                  (act : Act) (told : List Happening) → Sorted counts r steps x s act told → IfItGoesOn act s (λ y u. Known n y u) →
+                  (act : Act) (told : List Happening) → tick counts r steps x s ≡ telling act told →
+                  Sorted counts r steps x s act told → IfItGoesOn act s (λ y u. Known n y u) →
                   ((q : ℕ) (u : State) → Known n (fresh q) u → Claim (fresh q) u (rest q u)) →
                   Claim x s (follow r (x .place) act told s rest)
-              behind (Goes q e) told (leaves, right, says) h on =
-                  goes x s q e told (rest q (effectOn e s)) leaves right says (on q (effectOn e s) h)
-              behind (Halts how y) told (stays, stops) h on = halts x s how y told stays stops
+              behind (Goes q e) told same (leaves, right, says) h on =
+                  goes x s q e told (rest q (effectOn e s)) same leaves right says (on q (effectOn e s) h)
+              behind (Halts how y) told same (stays, stops) h on = halts x s how y told same stays stops
 
       -- whether they are enough or not
       pub ticks-by :
@@ -87,5 +91,5 @@ module _ (counts : Counts) (r : ℕ) (steps : List ℕ) where
           (n : ℕ) (x : Position) (s : State) → Claim s (ticks n counts r steps x s .told) (ticks n counts r steps x s .state)
       ticks-along =
           ticks-by (λ x s t. Claim s (t .told) (t .state))
-          (λ x s q e told t leaves right says rest. both _ _ _ (completed r (x .place) ∷ told) _ (goes x s e told right says) rest)
-          (λ x s how y told stays stops. halts x s how y told stops) (λ x s. none s)
+          (λ x s q e told t same leaves right says rest. both _ _ _ (completed r (x .place) ∷ told) _ (goes x s e told right says) rest)
+          (λ x s how y told same stays stops. halts x s how y told stops) (λ x s. none s)

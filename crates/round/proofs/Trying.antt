@@ -195,11 +195,11 @@ module _ (book : List ℕ) (a : Accepted book) where
     ticks-order =
         ticks-by (countsOf book) r steps
         (λ x s t. Sound book s → t .state .tooMany ≡ false → (s .tooMany ≡ false) × InOrder (There s) (t .told))
-        (λ x s q e told t leaves right says rest ok few.
+        (λ x s q e told t same leaves right says rest ok few.
         let (here, later) = rest (effect-sound book a s e right ok) few in
         let first = step-becomes x s e told right says ok in
         (first .few here, order-then (completed r (x .place) ∷ told) (t .told) first here later))
-        (λ x s how y told stays stops ok few. (few, stop-order x s stops))
+        (λ x s how y told same stays stops ok few. (few, stop-order x s stops))
         (λ x s ok few. (few, tt))
 
   pub turn-order :

@@ -15,13 +15,15 @@ use Rattle.book.specs.Layout.{routinesOf}
 use Rattle.book.specs.Accepted.{Accepted}
 use Rattle.game.specs.declared.Game.{Game}
 use Rattle.game.specs.Game.{routineAt, Sized}
+use Rattle.game.specs.Fits.{Fits}
 use Rattle.round.specs.declared.Position.{Position}
 use Rattle.round.specs.State.{State}
 use Rattle.round.specs.Actions.{positionOf}
 use Rattle.round.specs.Rounds.{round}
-use Rattle.round.specs.Answers.{marksIn, numbersPerMark, answer}
+use Rattle.round.specs.Answers.{marksIn, numbersPerMark, answer, spaceFor}
 use Rattle.round.proofs.Telling.{round-tells, answer-verdict, played-out, told-playable}
 use Rattle.round.proofs.Once.{completed-once}
+use Rattle.round.proofs.Demand.{round-accepted}
 use Rattle.rules.specs.Instructions.{Instruction, nothing}
 use Rattle.rules.specs.Residual.{residual, _⇝_, same}
 use Rattle.rules.specs.Claims.{Stands, threadsOf, ByTheRules}
@@ -73,3 +75,9 @@ module _ (book : List ℕ) (a : Accepted book) where
       ByTheRules book a (threadsOf book a (s .game)) s buffer (answer book (s .game) buffer)
   round-by-the-rules s buffer z e =
       answer-by-the-rules (threadsOf book a (s .game)) s buffer z (threads-stand (s .game)) e
+
+  -- and a round is accepted for every game that fits, if the buffer is long enough
+  pub every-round-by-the-rules :
+      (s : State) (buffer : List ℤ) → Sized (s .game) → Fits book (s .game) → spaceFor book ≤ length buffer →
+      ByTheRules book a (threadsOf book a (s .game)) s buffer (answer book (s .game) buffer)
+  every-round-by-the-rules s buffer z f space = round-by-the-rules s buffer z (round-accepted book a (s .game) z f buffer space)

@@ -1,6 +1,7 @@
--- The rules derive nothing else: from one start, two derivations by rules 1 to 32 have the same status, rest and scheduler, and two
--- instants by rules 33 to 38 have as many execution steps and end alike. By induction over both derivations, from starts that are equal:
--- where two rules are for one instruction, their conditions exclude each other, or they agree.
+-- The rules derive nothing else: from one start, two derivations by rules 1 to 32 have the same status, rest and scheduler, a thread or an
+-- execution step by rules 33 to 36 the same Boolean and end, and two instants by rules 37 and 38 as many execution steps and one end. By
+-- induction over both derivations, from starts that are equal: where two rules are for one instruction, their conditions exclude each
+-- other, or they agree.
 use Prim.Native.Nat.{ℕ, _≤_}
 use mathlib.Core.Path.{_≡_, refl}
 use mathlib.Core.Bool.{Bool}
@@ -142,6 +143,12 @@ same-thread (rule34 x u a) (rule33 (inl y)) f e = cc
 same-thread (rule34 x u a) (rule33 (inr y)) f e = absurd (y (cc))
 same-thread (rule34 x u a) (rule34 y w b) f e = let h = same-result a (rw (← f) at b) e in cc
 
+pub thread-determined :
+    {t : ℕ} {run run′ run″ : ℕ → Instruction} {σ τ υ : Scheduler} {b c : Bool} →
+    Thread t run σ b run′ τ → Thread t run σ c run″ υ →
+    (b ≡ c) × (run′ ≡ run″) × (τ ≡ υ)
+thread-determined a b = let h = same-thread a b refl refl in (cc, cc, cc)
+
 same-turns :
     {ts : List ℕ} {run run′ other other′ : ℕ → Instruction} {σ τ υ ω : Scheduler} {b c : Bool} →
     InTurn ts run σ b run′ τ → InTurn ts other υ c other′ ω → run ≡ other → σ ≡ υ →
@@ -157,6 +164,12 @@ same-step (rule35 x) (rule35 y) f e = cc
 same-step (rule35 x) (rule36 y b) f e = cc
 same-step (rule36 x a) (rule35 y) f e = cc
 same-step (rule36 {t} {ts} x a) (rule36 {t = u} {ts = us} y b) f e = let h : t ∷ ts ≡ u ∷ us = cc in same-turns a (rw h b) f e
+
+pub step-determined :
+    {run run′ run″ : ℕ → Instruction} {σ τ υ : Scheduler} {b c : Bool} →
+    ExecutionStep run σ b run′ τ → ExecutionStep run σ c run″ υ →
+    (b ≡ c) × (run′ ≡ run″) × (τ ≡ υ)
+step-determined a b = let h = same-step a b refl refl in (cc, cc, cc)
 
 same-instant :
     {n m : ℕ} {run run′ other other′ : ℕ → Instruction} {σ τ υ ω : Scheduler} →

@@ -17,35 +17,34 @@ use Rattle.book.specs.Accepted.{Accepted}
 use Rattle.game.specs.declared.Routine.{Routine}
 use Rattle.game.specs.Lines.{entriesOf}
 use Rattle.game.specs.Game.{continuing, routineAt}
+use Rattle.game.proofs.Decides.{fit-lists}
 use Rattle.round.specs.declared.Ending.{Ending}
 use Rattle.round.specs.declared.Ending.the-variants.{Ended, Rested, Missed, Continued}
 use Rattle.round.specs.declared.Position.{Position}
 use Rattle.round.specs.State.{State}
 use Rattle.round.specs.Actions.{positionOf}
 use Rattle.round.specs.Jumps.{sizeOf}
-use Rattle.round.specs.Rounds.{Ticks, mostTicks, withEnd, afterTurn, passedOver, took, Played, allDone, again, ticksOf}
-use Rattle.round.specs.Rounds.{turn, pass, Round, instant}
+use Rattle.round.specs.Rounds.{Ticks, mostTicks, afterTurn, passedOver, took, Played, allDone, again, ticksOf, turn, pass, instant}
 use Rattle.round.specs.Answers.{marksIn}
 use Rattle.round.specs.Enough.{RoundEnds}
 use Rattle.round.proofs.Along.{All}
+use Rattle.round.proofs.Entries.{entries-below}
 use Rattle.round.proofs.Sound.{Sound}
 use Rattle.round.proofs.TurnLaws.{isGoing}
 use Rattle.round.proofs.Parsed.{size-same}
 use Rattle.round.proofs.Lasting.{routine-in-time}
 use Rattle.round.proofs.Coming.{ticks-seats}
-use Rattle.round.proofs.AfterTurn.{going-parts, position-after}
-use Rattle.round.proofs.AfterTurn.{turn-over, taken, turn-taken}
+use Rattle.round.proofs.AfterTurn.{going-parts, end-keeps, position-after, turn-over, taken, turn-taken}
 use Rattle.round.proofs.Staying.{turn-sound, again-sound}
 use Rattle.round.proofs.Moving.{turn-seats}
 use Rattle.round.proofs.After.{pass-keeps, instant-keeps}
 use Rattle.round.proofs.Waiting.{by-flag, done-append}
 use Rattle.rules.specs.Instructions.{CONT, Instruction}
 use Rattle.rules.specs.Schedulers.{is, Scheduler, has, statusOf}
-use Rattle.rules.specs.Instants.{runs, isFinished, Thread, rule33, rule34, InTurn, none, next, ExecutionStep, rule35, rule36, Instant}
-use Rattle.rules.specs.Instants.{rule37, rule38}
+use Rattle.rules.specs.Instants.{runs, isFinished, rule33, rule34, InTurn, none, next, ExecutionStep, rule35, rule36, rule37, rule38}
 use Rattle.rules.specs.Residual.{residual, _⇝_}
 use Rattle.rules.specs.View.{view}
-use Rattle.rules.specs.Claims.{Stands}
+use Rattle.rules.specs.Claims.{Stands, TurnRule, PassRule, InstantRule}
 use Rattle.rules.proofs.Walks.{Marks, statusAfter}
 use Rattle.rules.proofs.Told.{marks-then, ends-of}
 use Rattle.rules.proofs.Stages.{stage-continues, stage-pauses, stage-seen}
@@ -60,13 +59,6 @@ done-turn Rested = refl
 done-turn Missed = refl
 done-turn Continued = refl
 
--- the end of a routine gives no number
-end-few : (h : Ending) (r : ℕ) (s : State) → withEnd h r s .tooMany ≡ s .tooMany
-end-few Ended r s = refl
-end-few Rested r s = refl
-end-few Missed r s = refl
-end-few Continued r s = refl
-
 -- why rule 33 passes over a routine
 not-going : (suspended continues : Bool) → not (suspended || not continues) ≡ false → (suspended ≡ true) ⊎ (continues ≡ false)
 not-going true continues h = inl refl
@@ -74,7 +66,7 @@ not-going false true h = absurd (true≢false h)
 not-going false false h = inr refl
 
 -- rules 35 and 36
-pub execution :
+execution :
     {ts : List ℕ} {run run′ : ℕ → Instruction} {σ σ′ : Scheduler} {b : Bool} → σ .actual ≡ ts → InTurn ts run σ b run′ σ′ →
     ExecutionStep run σ b run′ σ′
 execution e none = rule35 e
@@ -83,12 +75,6 @@ execution e (next first others) = rule36 e (next first others)
 module _ (book : List ℕ) (a : Accepted book) where
   abbrev R : ℕ
   R = routinesOf book
-
-  -- rules 33 and 34
-  abbrev pub TurnRule : ℕ → (ℕ → Instruction) → State → Marks → Played → Type 0
-  TurnRule r run s ms d =
-      (to : ℕ → Instruction) × Thread r run (view s ms) (allDone (d .turns)) to (view (d .state) (ms ++ marksIn (d .told)))
-      × Stands book a to (d .state .game)
 
   module _
       (r : ℕ) (l : r < R) (run : ℕ → Instruction) (s : State) (stand : Stands book a run (s .game)) (sound : Sound book s)
@@ -124,7 +110,7 @@ module _ (book : List ℕ) (a : Accepted book) where
           ]
 
       module _ (ms : Marks) where
-        turn-over-rule : isGoing s r ≡ false → TurnRule r run s ms (record { state = s; told = []; turns = passedOver ∷ [] })
+        turn-over-rule : isGoing s r ≡ false → TurnRule book a r run s ms (record { state = s; told = []; turns = passedOver ∷ [] })
         unfolding allDone marksIn
         turn-over-rule h =
             let why : (has (view s ms .threads .susp) r ≡ true) ⊎ (statusOf (view s ms) r ≢ is CONT) =
@@ -135,13 +121,14 @@ module _ (book : List ℕ) (a : Accepted book) where
             in
             (run, rw append-nil (rule33 why), stand)
 
-        turn-taken-rule : isGoing s r ≡ true → afterTurn r t .tooMany ≡ false → TurnRule r run s ms (taken r t)
+        turn-taken-rule : isGoing s r ≡ true → afterTurn r t .tooMany ≡ false → TurnRule book a r run s ms (taken r t)
         turn-taken-rule going few =
-            let few-before : t .state .tooMany ≡ false = sym (end-few (t .ending) r _) ∙ few in
+            let few-before =
+            end-keeps (λ u. u .tooMany ≡ false → t .state .tooMany ≡ false) (t .ending) r _ (λ h. h) (λ h. h) few in
             let time = routine-in-time book a r l (positionOf x) s in
-            let ends = ends-of book a r (mostTicks steps) (positionOf x) s ms time sound few-before in
+            let (n, ends) = ends-of book a r (mostTicks steps) (positionOf x) s time sound few-before .1 ms in
             let inside : x .place ≤ sizeOf steps = omega (arith, sound .fits .placesInRange r l, size-same book a r l) in
-            let (i, rule, w) = routine-by-rules book a r l (mostTicks steps) (positionOf x) s ms (run r) inside (stand r l) ends in
+            let (i, rule, w) = routine-by-rules book a r l n (positionOf x) s ms (run r) inside (stand r l) ends in
             let (awake, stage) = going-parts (x .suspended) (x .stage) going in
             let thread = rule34 (suspended-seen s ms r ∙ awake) (stage-seen s ms r ∙ stage-continues (x .stage) stage) rule in (
               runs run r i,
@@ -149,61 +136,69 @@ module _ (book : List ℕ) (a : Accepted book) where
               stands-after i going w,
             )
 
-        pub turn-by-rules : turn book r s .state .tooMany ≡ false → TurnRule r run s ms (turn book r s)
+        pub turn-by-rules : turn book r s .state .tooMany ≡ false → TurnRule book a r run s ms (turn book r s)
         turn-by-rules few =
             by-flag (isGoing s r)
             (λ h.
             let same = turn-taken book r s h in
-            subst (TurnRule r run s ms) (sym same) (turn-taken-rule h (sym (ap (λ (d : Played). d .state .tooMany) same) ∙ few)))
-            (λ h. subst (TurnRule r run s ms) (sym (turn-over book r s h)) (turn-over-rule h))
+            subst (TurnRule book a r run s ms) (sym same) (turn-taken-rule h (sym (ap (λ (d : Played). d .state .tooMany) same) ∙ few)))
+            (λ h. subst (TurnRule book a r run s ms) (sym (turn-over book r s h)) (turn-over-rule h))
 
-  -- the listed routines in turn
-  abbrev pub PassRule : List ℕ → (ℕ → Instruction) → State → Marks → Played → Type 0
-  PassRule rs run s ms d =
+  -- some routines in turn
+  turns-by-rules :
+      (rs : List ℕ) → All (λ r. r < R) rs → (run : ℕ → Instruction) (s : State) (ms : Marks) → Stands book a run (s .game) →
+      Sound book s → let d = pass book rs s in
+      d .state .tooMany ≡ false →
       (to : ℕ → Instruction) × InTurn rs run (view s ms) (allDone (d .turns)) to (view (d .state) (ms ++ marksIn (d .told)))
       × Stands book a to (d .state .game)
-
-  pub pass-by-rules :
-      (rs : List ℕ) → All (λ r. r < R) rs → (run : ℕ → Instruction) (s : State) (ms : Marks) → Stands book a run (s .game) →
-      Sound book s → pass book rs s .state .tooMany ≡ false → PassRule rs run s ms (pass book rs s)
   unfolding pass
-  pass-by-rules [] b run s ms stand sound few = unfold allDone marksIn in (run, rw append-nil none, stand)
-  pass-by-rules (r ∷ rs) b run s ms stand sound few =
+  turns-by-rules [] b run s ms stand sound few = unfold allDone marksIn in (run, rw append-nil none, stand)
+  turns-by-rules (r ∷ rs) b run s ms stand sound few =
       let first = turn book r s in
       let sound-first = turn-sound book a r s (b .0) sound in
       let few-first = pass-keeps book a rs (b .1) (first .state) sound-first .few few in
       let (to, rule, stand-first) = turn-by-rules r (b .0) run s stand sound ms few-first in
       let (last, others, stand-last) =
-      pass-by-rules rs (b .1) to (first .state) (ms ++ marksIn (first .told)) stand-first sound-first few in
+      turns-by-rules rs (b .1) to (first .state) (ms ++ marksIn (first .told)) stand-first sound-first few in
       (last, rw (done-append, ← marks-then) (next rule others), stand-last)
 
-  -- rules 37 and 38
-  abbrev pub InstantRule : (ℕ → Instruction) → State → Marks → Round → Type 0
-  InstantRule run s ms d =
-      (to : ℕ → Instruction)
-      × Instant (d .passes) run (view s ms) to (view (d .played .state) (ms ++ marksIn (d .played .told)))
-      × Stands book a to (d .played .state .game)
+  -- the routines that the scheduler has in actual
+  abbrev listed : State → List ℕ
+  listed s = entriesOf (s .game .listed)
+
+  listed-below : (s : State) → Sound book s → All (λ r. r < R) (listed s)
+  listed-below s sound = entries-below (s .game .listed) (fit-lists book (s .game) (sound .fits) .0) (sound .sized .listed)
+
+  pub pass-by-rules :
+      (run : ℕ → Instruction) (s : State) (ms : Marks) → Stands book a run (s .game) → Sound book s →
+      let d = pass book (entriesOf (s .game .listed)) s in
+      d .state .tooMany ≡ false → PassRule book a run s ms d
+  pass-by-rules run s ms stand sound few =
+      let (to, rule, stand-last) = turns-by-rules (listed s) (listed-below s sound) run s ms stand sound few in
+      (to, execution (actual-seen s ms) rule, stand-last)
 
   pub instant-by-rules :
-      (n : ℕ) (rs : List ℕ) → All (λ r. r < R) rs → (run : ℕ → Instruction) (s : State) (ms : Marks) → rs ≡ entriesOf (s .game .listed) →
-      Stands book a run (s .game) → Sound book s → RoundEnds book n rs s → instant book n rs s .played .state .tooMany ≡ false →
-      InstantRule run s ms (instant book n rs s)
+      (n : ℕ) (run : ℕ → Instruction) (s : State) (ms : Marks) → Stands book a run (s .game) → Sound book s →
+      RoundEnds book n (entriesOf (s .game .listed)) s →
+      let d = instant book n (entriesOf (s .game .listed)) s in
+      d .played .state .tooMany ≡ false → InstantRule book a run s ms d
   unfolding instant RoundEnds
-  instant-by-rules zero rs b run s ms e stand sound ends few = absurd ends
-  instant-by-rules (suc n) rs b run s ms e stand sound (inl done) few =
-      let (to, rule, stand-first) = pass-by-rules rs b run s ms stand sound (rw done at few) in
-      rw done (to, rule37 (rw done at (execution (actual-seen s ms ∙ sym e) rule)), stand-first)
-  instant-by-rules (suc n) rs b run s ms e stand sound (inr (undone, ends)) few =
+  instant-by-rules zero run s ms stand sound ends few = absurd ends
+  instant-by-rules (suc n) run s ms stand sound (inl done) few =
+      let (to, rule, stand-first) = pass-by-rules run s ms stand sound (rw done at few) in
+      rw done (to, rule37 (rw done at rule), stand-first)
+  instant-by-rules (suc n) run s ms stand sound (inr (undone, ends)) few =
+      let rs = listed s in
       let first = pass book rs s in
       let u = again (first .state) in
-      let kept = pass-keeps book a rs b s sound in
+      let kept = pass-keeps book a rs (listed-below s sound) s sound in
+      let same : listed u ≡ rs = ap (λ l. entriesOf l) (kept .listed) in
       let sound-again = again-sound (first .state) (kept .sound) in
       let few-last : instant book n rs u .played .state .tooMany ≡ false = rw undone at few in
-      let few-first = instant-keeps book a n rs b u sound-again .few few-last in
-      let (to, rule, stand-first) = pass-by-rules rs b run s ms stand sound few-first in
+      let few-first = instant-keeps book a n rs (listed-below s sound) u sound-again .few few-last in
+      let (to, rule, stand-first) = pass-by-rules run s ms stand sound few-first in
       let (last, others, stand-last) =
-      instant-by-rules n rs b to u (ms ++ marksIn (first .told)) (e ∙ ap (λ l. entriesOf l) (sym (kept .listed))) stand-first sound-again
-      ends few-last in
-      let step = rw undone at (execution (actual-seen s ms ∙ sym e) rule) in
+      rw same at (instant-by-rules n to u (ms ++ marksIn (first .told)) stand-first sound-again (rw same ends) (rw same few-last)) in
       let flags = again-seen (first .state) (ms ++ marksIn (first .told)) in
-      rw (undone, add-one (instant book n rs u .passes), ← marks-then) (last, rule38 {run″ = last} step (rw flags at others), stand-last)
+      rw (undone, add-one (instant book n rs u .passes), ← marks-then)
+      (last, rule38 {run″ = last} (rw undone at rule) (rw flags at others), stand-last)

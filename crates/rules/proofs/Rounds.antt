@@ -1,18 +1,17 @@
 -- A round is what the paper has for it, one chaining step and then one instant, whatever signals and numbers an earlier round left; and
 -- it is the only one. The chaining step is the eight actions, which leave every routine where it stands; the passes are an instant.
 use Prim.Native.Nat.{ℕ}
-use mathlib.Core.Path.{_≡_, refl, sym, _∙_}
+use mathlib.Core.Path.{_≡_, sym, _∙_}
 use mathlib.Core.List.{List, _++_}
 use Rattle.book.specs.Accepted.{Accepted}
 use Rattle.game.specs.declared.Game.{Game}
-use Rattle.game.specs.Lines.{entriesOf}
 use Rattle.game.specs.Game.{Sized}
 use Rattle.game.specs.Fits.{Fits}
 use Rattle.round.specs.State.{State}
 use Rattle.round.specs.Actions.{atStart}
 use Rattle.round.specs.Rounds.{mostPasses, round}
 use Rattle.round.specs.Answers.{marksIn}
-use Rattle.round.proofs.Actions.{at-start-positions, at-start-listed}
+use Rattle.round.proofs.Actions.{at-start-positions}
 use Rattle.round.proofs.Starting.{at-start-sound}
 use Rattle.round.proofs.Enough.{enough}
 use Rattle.round.proofs.After.{round-fits}
@@ -46,8 +45,8 @@ module _ (book : List ℕ) (a : Accepted book) where
       let g = s .game in
       let range = a .laid .counts in
       let (to, rule, last) =
-      instant-by-rules book a mostPasses (entriesOf (atStart g .game .listed)) (at-start-listed book g range z f) run (atStart g) ms refl
-      (at-start-stands run g stand) (at-start-sound book g a z f) (enough book a g z f .passes) (none-lost book a g z f) in
+      instant-by-rules book a mostPasses run (atStart g) ms (at-start-stands run g stand) (at-start-sound book g a z f)
+      (enough book a g z f .passes) (none-lost book a g z f) in
       let derived : Round (round book g .passes) run (view s ms) to
       (view (round book g .played .state) (ms ++ marksIn (round book g .played .told))) = rw (chains book s ms range z f) rule in
       (to, record { derived = derived; noOther = λ n run″ σ″ other. instant-determined other derived }, last)

@@ -1,7 +1,7 @@
--- What is claimed of a round as defined: the rules give it, and no other.
+-- What is claimed of turns, passes and rounds as defined: the rules give them; and of a round, that they give no other.
 use Prim.Native.Nat.{ℕ, _<_, _*_}
 use mathlib.Core.Path.{_≡_}
-use mathlib.Core.List.{List, [], _∷_}
+use mathlib.Core.List.{List, [], _∷_, _++_}
 use mathlib.Core.Logic.{dite}
 use native.Mathlib.Decide.{decLt}
 use lib.ListN.{length, getD, take, drop}
@@ -12,10 +12,11 @@ use Rattle.game.specs.declared.Game.{Game}
 use Rattle.game.specs.Game.{routineAt}
 use Rattle.round.specs.State.{State}
 use Rattle.round.specs.Actions.{positionOf}
-use Rattle.round.specs.Answers.{numbersPerMark, Answer}
+use Rattle.round.specs.Answers.{numbersPerMark, Answer, marksIn}
+use Rattle.round.specs.Rounds.{Played, allDone, Round as Passes}
 use Rattle.rules.specs.Instructions.{Instruction, nothing}
 use Rattle.rules.specs.Schedulers.{Scheduler}
-use Rattle.rules.specs.Instants.{Round}
+use Rattle.rules.specs.Instants.{Thread, ExecutionStep, Instant, Round}
 use Rattle.rules.specs.Residual.{residual, _⇝_}
 use Rattle.rules.specs.View.{view}
 
@@ -32,6 +33,32 @@ module _ (book : List ℕ) (a : Accepted book) where
   -- each thread is to run what is left of its routine where the game has it, but for nothings in front
   abbrev pub Stands : (ℕ → Instruction) → Game → Type 0
   Stands run g = (r : ℕ) (h : r < routinesOf book) → run r ⇝ residual book a r h (positionOf (routineAt g r))
+
+  -- Of what a turn, a pass or a round's passes come to from state s, with these marks made before: the rules lead from the scheduler of s
+  -- to that of the state behind, with the marks told behind the others, and the threads stand for the game there.
+
+  -- A turn of routine r: rules 33 and 34, where "b is a boolean which is true if execution is finished for the current instant".
+  abbrev pub TurnRule : ℕ → (ℕ → Instruction) → State → List (ℕ × ℤ) → Played → Type 0
+  TurnRule r run s marks d =
+      (run′ : ℕ → Instruction)
+      × Thread r run (view s marks) (allDone (d .turns)) run′ (view (d .state) (marks ++ marksIn (d .told)))
+      × Stands run′ (d .state .game)
+
+  -- "pass = one scheduler execution step (rules 35 and 36)", where "the boolean b is true if all threads have finished their execution for
+  -- the current instant"
+  abbrev pub PassRule : (ℕ → Instruction) → State → List (ℕ × ℤ) → Played → Type 0
+  PassRule run s marks d =
+      (run′ : ℕ → Instruction)
+      × ExecutionStep run (view s marks) (allDone (d .turns)) run′ (view (d .state) (marks ++ marksIn (d .told)))
+      × Stands run′ (d .state .game)
+
+  -- The passes of a round: rules 37 and 38. "A sequence of execution steps leading to a situation where all threads are finished for the
+  -- current instant defines a complete instant"; it has as many steps as there are passes.
+  abbrev pub InstantRule : (ℕ → Instruction) → State → List (ℕ × ℤ) → Passes → Type 0
+  InstantRule run s marks d =
+      (run′ : ℕ → Instruction)
+      × Instant (d .passes) run (view s marks) run′ (view (d .played .state) (marks ++ marksIn (d .played .told)))
+      × Stands run′ (d .played .state .game)
 
   -- the threads of a game: each is to run what is left of its routine
   abbrev pub threadsOf : Game → ℕ → Instruction
