@@ -32,7 +32,7 @@ use Rattle.round.proofs.AfterTurn.{going-parts, taken, turn-over, turn-
 use Rattle.round.proofs.Outcomes.{turn-out, turn-continues}
 
 -- the first step of a turn settles it, or the others follow
-first-tick :
+pub first-tick :
     (counts : Counts) (r : ℕ) (steps : List ℕ) (n : ℕ) (x : Position) (s : State) {t : Tick} → tick counts r steps x s ≡ t →
     ticks (n + 1) counts r steps x s ≡ follow r (x .place) (t .act) (t .told) s (λ p u. ticks n counts r steps (fresh p) u)
 unfolding ticks

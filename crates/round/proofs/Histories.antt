@@ -78,7 +78,7 @@ module _ (P : Happening → Type 0) where
   somewhere-append (x ∷ a) b (inl h) = inl (inl h)
   somewhere-append (x ∷ a) b (inr h) = elim (somewhere-append a b h) [ inl k ↦ inl (inr k) | inr k ↦ inr k ]
 
-  in-first : (a b : List Happening) → Somewhere P a → Somewhere P (a ++ b)
+  pub in-first : (a b : List Happening) → Somewhere P a → Somewhere P (a ++ b)
   in-first (h ∷ a) b (inl w) = inl w
   in-first (h ∷ a) b (inr w) = inr (in-first a b w)
 

@@ -64,3 +64,5 @@ pub mod Misses
 pub mod Trying
 pub mod Tried
 pub mod Whole
+pub mod FirstTurn
+pub mod CountsDown

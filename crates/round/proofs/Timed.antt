@@ -1,10 +1,11 @@
--- Document 01: "What timed steps share is shown for all three together." A try of rest n, wait n or join n, with the count k left of it,
--- is past, or rests with k - 1 left, or is to be continued where it stands; with none left it is past.
--- By the tests that the step makes, as variables: past or not, and the round being closed or not.
+-- Document 01: "What timed steps share is shown for all three together." A try of rest n, wait n or join n comes to one of three acts: past
+-- the step, at rest on it with one less left, or to be continued there. By the tests that the step makes, as variables: whether its thing
+-- is there, whether none is left, whether it pauses.
 use Prim.Native.Nat.{ℕ, _+_, _-_, _<_}
-use mathlib.Core.Path.{_≡_, refl, sym}
-use mathlib.Core.Bool.{Bool, true, false, _&&_, _||_, not, true≢false}
+use mathlib.Core.Path.{_≡_, refl, ap, _∙_}
+use mathlib.Core.Bool.{Bool, true, false, _&&_, _||_, not, or-true}
 use mathlib.Core.List.{List, [], _∷_}
+use mathlib.Core.Logic.{_⊎_, inl, inr}
 use native.Mathlib.Omega.{arith}
 use borrow.Author.Tests.{eq-eqb, ne-eqb}
 use lib.Dec.{eqb}
@@ -13,97 +14,60 @@ use Rattle.kinds.specs.declared.Step.{Step}
 use Rattle.kinds.specs.Timed.{Timed, restFor, waitFor, joinFor}
 use Rattle.game.specs.Game.{rested}
 use Rattle.round.specs.declared.Ending.{Ending}
-use Rattle.round.specs.declared.Ending.the-variants.{Ended, Rested, Missed, Continued}
+use Rattle.round.specs.declared.Ending.the-variants.{Rested, Missed, Continued}
 use Rattle.round.specs.declared.Position.{Position}
-use Rattle.round.specs.declared.Effect.{Effect}
 use Rattle.round.specs.declared.Effect.the-variants.{Nothing}
 use Rattle.round.specs.declared.Act.{Act}
 use Rattle.round.specs.declared.Act.the-variants.{Goes, Halts}
 use Rattle.round.specs.State.{State, Thing, signal, end, Happening, missing, past, isThere}
 use Rattle.round.specs.Ticks.{telling, begunAt, countAt, waitsFor, tickOf, tickAt}
 use Rattle.round.specs.Rounds.{stageAfter}
-use Rattle.round.proofs.Tries.{some-left}
-
--- what a timed step at position x comes to, with the count k
-pub record TimedTick (x : Position) (k : ℕ) (act : Act) : Type 0 where
-  -- with none left, the step is past at once
-  pub noneLeft : k ≡ 0 → act ≡ Goes (x .place + 1) Nothing
-  -- where the turn goes on, it goes on behind the step, and the step changes nothing
-  pub goesOn : (p : ℕ) (e : Effect) → act ≡ Goes p e → (p ≡ x .place + 1) × (e ≡ Nothing)
-  -- where the routine rests, some were left and now one less is: "Begun is set when op 7, 9 or 11 pauses"
-  pub rests : (how : Ending) (y : Position) → act ≡ Halts how y → stageAfter how ≡ rested → (0 < k) × (y ≡ begunAt (x .place) (k - 1))
-  -- where the routine is to be continued, its position stays
-  pub stays : (y : Position) → act ≡ Halts Continued y → y ≡ x
-  -- the step never ends the routine
-  pub neverEnds : (y : Position) → act ≡ Halts Ended y → ⊥
-
-goes-not-halts : {X : Type 0} {p : ℕ} {e : Effect} {how : Ending} {y : Position} → Goes p e ≡ Halts how y → X
-goes-not-halts h = let z : _≡_ {A = ℕ} 0 1 = cc in absurd (omega arith)
-
--- two endings of one halt leave the same stage
-same-stage : {a b : Ending} {y z : Position} → Halts a y ≡ Halts b z → stageAfter a ≡ stageAfter b
-same-stage {a} {b} h = let e : a ≡ b = cc in rw e
+use Rattle.round.specs.Timed.{hasThing, isPausing, TimedTick}
 
 module _ (x : Position) (k : ℕ) where
-  -- what the three come to: past, at rest with one less, or to be continued
+  -- what the three come to
   abbrev shape : Bool → Bool → Ending → Act
-  shape isPast closing how =
-      if isPast then Goes (x .place + 1) Nothing else if closing then Halts how (begunAt (x .place) (k - 1)) else Halts Continued x
+  shape isPast pausing how =
+      if isPast then Goes (x .place + 1) Nothing else if pausing then Halts how (begunAt (x .place) (k - 1)) else Halts Continued x
 
-  timed-shape : (isPast closing : Bool) (how : Ending) → (k ≡ 0 → isPast ≡ true) → stageAfter how ≡ rested →
-      TimedTick x k (shape isPast closing how)
-  timed-shape true closing how none stage =
-      record {
-        noneLeft = λ z. refl;
-        goesOn = λ p e h. (cc, cc);
-        rests = λ other y h rest. goes-not-halts h;
-        stays = λ y h. goes-not-halts h;
-        neverEnds = λ y h. goes-not-halts h;
-      }
-  timed-shape false true how none stage =
-      record {
-        noneLeft = λ z. absurd (true≢false (sym (none z)));
-        goesOn = λ p e h. goes-not-halts (sym h);
-        rests = λ other y h rest. (some-left k (ne-eqb k 0 (λ z. true≢false (sym (none z)))), cc);
-        stays = λ y h. absurd (omega (arith, same-stage h));
-        neverEnds = λ y h. absurd (omega (arith, same-stage h));
-      }
-  timed-shape false false how none stage =
-      record {
-        noneLeft = λ z. absurd (true≢false (sym (none z)));
-        goesOn = λ p e h. goes-not-halts (sym h);
-        rests = λ other y h rest. absurd (omega (arith, same-stage h));
-        stays = λ y h. cc;
-        neverEnds = λ y h. absurd (omega (arith, same-stage h));
-      }
-
-  -- rules 25 to 29 have that shape: past where none is left or the thing is there
-  waiting : (none there closing : Bool) (found lacking : List Happening) →
+  -- rules 25 to 29 have that shape
+  waiting : (there none closing : Bool) (found lacking : List Happening) →
       (if none && not there
       then telling (Goes (x .place + 1) Nothing) []
       else if there
       then telling (Goes (x .place + 1) Nothing) found
       else telling (if closing then Halts Missed (begunAt (x .place) (k - 1)) else Halts Continued x) lacking) .act
-      ≡ shape (none || there) closing Missed
+      ≡ shape (there || none) closing Missed
   waiting true true closing found lacking = refl
   waiting true false closing found lacking = refl
   waiting false true closing found lacking = refl
   waiting false false closing found lacking = refl
 
 module _ (r : ℕ) (steps : List ℕ) (x : Position) (s : State) where
-  timed-wait : (t : Thing) (k : ℕ) → TimedTick x k (waitsFor r steps x s t k .act)
+  by-shape :
+      {st : Step} {n : ℕ} (timed : Timed st n) (how : Ending) → stageAfter how ≡ rested →
+      tickAt r steps x s st .act ≡ shape x (countAt x n) (hasThing s timed || eqb (countAt x n) 0) (isPausing s timed) how →
+      TimedTick r steps x s timed
+  by-shape {n = n} timed how stage e =
+      record {
+        goesOn = λ h. e ∙ ap (λ p. shape x (countAt x n) p (isPausing s timed) how) (over h);
+        pauses = λ some none now. (how, e ∙ rw (none, left some, now), stage);
+        stays = λ some none now. e ∙ rw (none, left some, now);
+      }
+    where
+      over : (countAt x n ≡ 0) ⊎ (hasThing s timed ≡ true) → (hasThing s timed || eqb (countAt x n) 0) ≡ true
+      over (inl z) = rw (eq-eqb (countAt x n) 0 z, or-true)
+      over (inr h) = rw h
+
+      left : 0 < countAt x n → eqb (countAt x n) 0 ≡ false
+      left some = ne-eqb (countAt x n) 0 (λ z. omega arith)
+
+  waits-shape : (t : Thing) (k : ℕ) → waitsFor r steps x s t k .act ≡ shape x k (isThere s t || eqb k 0) (s .eoi) Missed
   unfolding waitsFor
-  timed-wait t k =
-      rw (waiting x k (eqb k 0) (isThere s t) (s .eoi) (past r (x .place) t ∷ []) (missing r (x .place) t ∷ []))
-      (timed-shape x k (eqb k 0 || isThere s t) (s .eoi) Missed (λ z. rw (eq-eqb k 0 z)) refl)
+  waits-shape t k = waiting x k (isThere s t) (eqb k 0) (s .eoi) (past r (x .place) t ∷ []) (missing r (x .place) t ∷ [])
 
-  pub timed-tick : {st : Step} {n : ℕ} → Timed st n → TimedTick x (countAt x n) (tickAt r steps x s st .act)
+  pub timed-tick : {st : Step} {n : ℕ} (timed : Timed st n) → TimedTick r steps x s timed
   unfolding tickOf
-  timed-tick (restFor {n}) = timed-shape x (countAt x n) (eqb (countAt x n) 0) true Rested (eq-eqb (countAt x n) 0) refl
-  timed-tick (waitFor {e} {n}) = timed-wait (signal e) (countAt x n)
-  timed-tick (joinFor {r = t} {n}) = timed-wait (end t) (countAt x n)
-
--- from one round to the next: a rest at a begun step leaves it begun, with one less
-pub rest-counts-down : (r : ℕ) (steps : List ℕ) (p k : ℕ) (s : State) {st : Step} {n : ℕ} → Timed st n → (how : Ending) (y : Position) →
-    tickAt r steps (begunAt p k) s st .act ≡ Halts how y → stageAfter how ≡ rested → (0 < k) × (y ≡ begunAt p (k - 1))
-rest-counts-down r steps p k s t how y h rest = timed-tick r steps (begunAt p k) s t .rests how y h rest
+  timed-tick restFor = by-shape restFor Rested refl refl
+  timed-tick (waitFor {e} {n}) = by-shape waitFor Missed refl (waits-shape (signal e) (countAt x n))
+  timed-tick (joinFor {r = t} {n}) = by-shape joinFor Missed refl (waits-shape (end t) (countAt x n))

@@ -6,6 +6,7 @@ pub mod Ticks
 pub mod Rounds
 pub mod Answers
 pub mod Tells
+pub mod Timed
 pub mod Demand
 pub mod Completed
 pub mod Whole
