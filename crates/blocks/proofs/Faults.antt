@@ -11,6 +11,7 @@ use lib.Dec.{ltb}
 use lib.ListN.{length}
 use borrow.Author.Tests.{ltb-true}
 use Rattle.numbers.specs.Choice.{if_then_else_}
+use Rattle.numbers.proofs.Tests.{by-test}
 use Rattle.kinds.specs.declared.Form.{Form}
 use Rattle.kinds.specs.declared.Form.the-variants.{Plain, Pausing, IfOpening, ElseMarker, WhileOpening, EndMarker}
 use Rattle.blocks.specs.declared.Fault.{Fault}
@@ -22,7 +23,7 @@ use Rattle.blocks.specs.Blocks.{View, beyond, unreadable, stands, elseAt
 use Rattle.blocks.specs.Blocks.{ifBy, whileBy, stepBy, blockStep, blockBy, stepOf, blockOf, routineOf}
 use Rattle.blocks.specs.Parse.{Open, openIf, openElse, openWhile, openingOf, Reached, Misplaced}
 use Rattle.blocks.proofs.Views.{Stops, within, stands-within, stands-not-beyond, unreadable-not-beyond, else-at}
-use Rattle.blocks.proofs.Views.{Says, by-test, says-more, says-then, says-closed}
+use Rattle.blocks.proofs.Views.{Says, says-more, says-then, says-closed}
 
 marker-form : (f : Form) → (isElse f || isEnd f) ≡ true → (f ≡ ElseMarker) ⊎ (f ≡ EndMarker)
 marker-form Plain e = inl cc
@@ -70,7 +71,7 @@ module _ (at : ℕ → View) (n : ℕ) (out : (p : ℕ) → n ≤ p → at p ≡
     blockStep-faults k rest R beyond p u l h r i = (r, rw h tt, omega arith)
     blockStep-faults k rest R unreadable p u l h r i = unreadable-fault os p r h
     blockStep-faults k rest R (stands f) p u l h r i =
-        by-test (Says (BlockEnds os p) FaultIs) (isElse f || isEnd f) _ _ (λ e. (r, rw h e, omega arith))
+        by-test (Says (BlockEnds os p) FaultIs) (isElse f || isEnd f) (λ e. (r, rw h e, omega arith))
         (λ e. says-then (StepEnds os p) (BlockEnds os p) FaultIs (step f p) _ (S f p r h e) (λ q v m s.
         says-more (BlockEnds os q) (BlockEnds os p) FaultIs (rest q (u || v) (min l m))
         (R q (u || v) (min l m) (s .0) (omega arith)) (λ z w o b. (b .0, b .1, omega arith))))
@@ -107,7 +108,7 @@ module _ (at : ℕ → View) (n : ℕ) (out : (p : ℕ) → n ≤ p → at p ≡
     ifBy-faults p r h =
         says-then (BlockEnds (openIf p ∷ os) (suc p)) (StepEnds os p) FaultIs (block (p + 1)) _
         (behind (openIf p) p (Reached.if r h (omega arith))) (λ q u l b.
-        by-test (Says (StepEnds os p) FaultIs) (elseAt (at q)) _ _
+        by-test (Says (StepEnds os p) FaultIs) (elseAt (at q))
         (λ e. else-faults p q u l (stands-within at n out p h) (omega arith) (b .0) (else-at (at q) e))
         (λ e. closed-faults os (openIf p) q false l (stands-within at n out p h) (omega arith) (b .0) (b .1)
         (λ k. absurd (true≢false (rw k at e)))))
@@ -160,7 +161,7 @@ module _ (at : ℕ → View) (n : ℕ) (out : (p : ℕ) → n ≤ p → at p ≡
     unfolding routineOf
     routine-faults =
         says-then (BlockEnds [] 0) Anything FaultIs (blockOf at n deepest 0) _ (blockOf-faults deepest [] (omega arith) 0 Reached.start)
-        (λ q u l b. by-test (Says Anything FaultIs) (ltb q n) _ _
+        (λ q u l b. by-test (Says Anything FaultIs) (ltb q n)
         (λ e. (alone q (b .0) (b .1) (ltb-true q n e), ltb-true q n e)) (λ e. tt))
 
     pub misnested : (p : ℕ) → routineOf at n ≡ walk.Fault (Misnested p) → Misplaced at p × (p < n)

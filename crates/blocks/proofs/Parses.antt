@@ -2,13 +2,14 @@
 -- The first goes by the depth left and the steps left, the second by the parse; the lowest while without a pause is read off the parse.
 use Prim.Native.Nat.{ℕ, zero, suc, _-_, _+_, _≤_, _<_, min}
 use mathlib.Core.Path.{_≡_, refl, sym, ap₂, subst, _∙_}
-use mathlib.Core.Bool.{Bool, true, false, _&&_, _||_, or-assoc}
+use mathlib.Core.Bool.{Bool, true, false, _&&_, _||_, or-false, or-assoc}
 use native.Mathlib.Nat.{min-eq-left}
 use native.Mathlib.Numerals.{add-one}
 use native.Mathlib.Omega.{arith}
 use lib.Dec.{ltb}
 use borrow.Author.Tests.{ltb-false, le-ltb}
 use Rattle.numbers.specs.Choice.{if_then_else_}
+use Rattle.numbers.proofs.Tests.{by-test}
 use Rattle.kinds.specs.declared.Form.{Form}
 use Rattle.kinds.specs.declared.Form.the-variants.{Plain, Pausing, IfOpening, ElseMarker, WhileOpening, EndMarker}
 use Rattle.blocks.specs.declared.Fault.{Fault}
@@ -18,11 +19,7 @@ use Rattle.kinds.specs.Forms.{isElse, isEnd}
 use Rattle.blocks.specs.Blocks.{View, beyond, unreadable, stands, elseAt, andThen, closed, deepest}
 use Rattle.blocks.specs.Blocks.{ifBy, whileBy, stepBy, blockStep, blockBy, stepOf, blockOf, routineOf}
 use Rattle.blocks.specs.Parse.{ParsedBlock, ParsedStep, empty, more, plain, pausing, ifOnly, ifElse, loop, blockPauses, stepPauses}
-use Rattle.blocks.proofs.Views.{Stops, stands-within, stands-not-beyond, Says, by-test, says-more, says-then, says-closed, else-at}
-
-or-false : (u : Bool) → (u || false) ≡ u
-or-false true = refl
-or-false false = refl
+use Rattle.blocks.proofs.Views.{Stops, stands-within, stands-not-beyond, Says, says-more, says-then, says-closed, else-at}
 
 module _ (at : ℕ → View) (n : ℕ) where
   -- the lowest while whose body doesn't pause, or n where there is none
@@ -83,7 +80,7 @@ module _ (at : ℕ → View) (n : ℕ) where
     blockStep-sound rest R beyond p h u l i = stopped d p u l i
     blockStep-sound rest R unreadable p h u l i = tt
     blockStep-sound rest R (stands f) p h u l i =
-        by-test (Says (RestIs d p u l) Any) (isElse f || isEnd f) _ _ (λ e. stopped d p u l i)
+        by-test (Says (RestIs d p u l) Any) (isElse f || isEnd f) (λ e. stopped d p u l i)
         (λ e. says-then (StepIs d p) (RestIs d p u l) Any (step f p) _ (S f p h) (λ q v m s.
         let w = u || v in
         let o = min l m in
@@ -110,7 +107,7 @@ module _ (at : ℕ → View) (n : ℕ) where
     ifBy-sound : (p : ℕ) → at p ≡ stands IfOpening → Says (StepIs (suc d) p) Any (ifBy at n block p)
     ifBy-sound p h =
         says-then (BlockIs d (suc p)) (StepIs (suc d) p) Any (block (p + 1)) _ (behind p) (λ q u l b.
-        by-test (Says (StepIs (suc d) p) Any) (elseAt (at q)) _ _ (λ e. else-sound p q u l h b (else-at (at q) e))
+        by-test (Says (StepIs (suc d) p) Any) (elseAt (at q)) (λ e. else-sound p q u l h b (else-at (at q) e))
         (λ e. closed-sound (StepIs (suc d) p) p q false l (λ k. (ifOnly h (b .0) k, refl, b .2))))
 
     whileBy-sound : (p : ℕ) → at p ≡ stands WhileOpening → Says (StepIs (suc d) p) Any (whileBy at n block p)
@@ -232,9 +229,6 @@ module _ (at : ℕ → View) (n : ℕ) where
   pausing-read (suc d) p = rw (add-one p)
 
   module _ (out : (p : ℕ) → n ≤ p → at p ≡ beyond) where
-    marker-stops : {q : ℕ} (f : Form) → at q ≡ stands f → (isElse f || isEnd f) ≡ true → Stops (at q)
-    marker-stops f k e = rw k e
-
     -- a block before which no while is told
     whole :
         {d p e : ℕ} (b : ParsedBlock at d p e) → blockOf at n d p ≡ walk.Past e (blockPauses at b) (min n (lowest b)) →
@@ -259,14 +253,14 @@ module _ (at : ℕ → View) (n : ℕ) where
       step-complete {d} {p} (pausing h) = pausing-read d p
       step-complete (ifOnly {d = d} {p = p} {q = q} h b k) =
           ifOnly-read (blockOf at n d) p q _ _
-          (whole b (block-complete b (marker-stops EndMarker k refl) (n - suc p) (omega arith) false n (omega arith))) k
+          (whole b (block-complete b (rw k) (n - suc p) (omega arith) false n (omega arith))) k
       step-complete (ifElse {d = d} {p = p} {q = q} {r = r} h b k c j) =
           ifElse-read (blockOf at n d) p q r _ _ _ _
-          (whole b (block-complete b (marker-stops ElseMarker k refl) (n - suc p) (omega arith) false n (omega arith))) k
-          (whole c (block-complete c (marker-stops EndMarker j refl) (n - suc q) (omega arith) false n (omega arith))) j
+          (whole b (block-complete b (rw k) (n - suc p) (omega arith) false n (omega arith))) k
+          (whole c (block-complete c (rw j) (n - suc q) (omega arith) false n (omega arith))) j
       step-complete (loop {d = d} {p = p} {q = q} h b k) =
           loop-read (blockOf at n d) p q _ _
-          (whole b (block-complete b (marker-stops EndMarker k refl) (n - suc p) (omega arith) false n (omega arith))) k
+          (whole b (block-complete b (rw k) (n - suc p) (omega arith) false n (omega arith))) k
 
     mutual
       block-within : {d p e : ℕ} → ParsedBlock at d p e → p ≤ n → e ≤ n
@@ -287,7 +281,7 @@ module _ (at : ℕ → View) (n : ℕ) where
     unfolding routineOf
     routine-says =
         says-then (BlockIs deepest 0) RoutineIs Any (blockOf at n deepest 0) _ (blockOf-sound deepest 0) (λ q u l b.
-        by-test (Says RoutineIs Any) (ltb q n) _ _ (λ e. tt) (λ e.
+        by-test (Says RoutineIs Any) (ltb q n) (λ e. tt) (λ e.
         let k : q ≡ n = omega (arith, ltb-false q n e, block-within (b .0) (omega arith)) in
         (k, subst (λ x. BlockIs deepest 0 x u l) k b)))
 

@@ -1,18 +1,17 @@
 -- The search for an opening's partner finds the marker at which, by the parse, the block behind the opening stops.
 -- The search goes by the ops, and the parse by the forms: they are compared row by row of the table, in which a step's op has its kind.
 -- From there on the search passes over a block's steps with the blocks in them, and is behind them as deep as before them.
-use Prim.Native.Nat.{ℕ, zero, suc, _+_, _-_, _/_, _<_}
+use Prim.Native.Nat.{ℕ, zero, suc, _+_, _-_, _<_}
 use mathlib.Core.Path.{_≡_, refl, sym, ap, _∙_, subst}
 use mathlib.Core.Bool.{Bool, true, false}
 use mathlib.Core.List.{List, [], _∷_}
 use mathlib.Core.Logic.{_⊎_, inl, inr}
-use native.Mathlib.Decide.{decLt}
 use native.Mathlib.Nat.{add-zero, add-suc, zero-add, suc-add}
 use native.Mathlib.Numerals.{add-one}
 use native.Mathlib.Omega.{arith}
 use lib.Dec.{eqb}
 use lib.IntN.{ℤ}
-use lib.ListN.{getD, length}
+use lib.ListN.{getD}
 use borrow.Author.Tests.{ne-eqb}
 use Rattle.numbers.specs.Choice.{if_then_else_}
 use Rattle.numbers.specs.Numbers.{countOf}
@@ -24,12 +23,12 @@ use Rattle.kinds.specs.declared.Counts.{Counts}
 use Rattle.kinds.specs.declared.Row.{Row}
 use Rattle.kinds.specs.declared.Form.{Form}
 use Rattle.kinds.specs.declared.Form.the-variants.{Plain, Pausing, IfOpening, ElseMarker, WhileOpening, EndMarker}
-use Rattle.kinds.specs.Steps.{stepBytes, table, rowOf, opAt, fieldA, fieldB, fieldN, stepAt}
+use Rattle.kinds.specs.Steps.{table, rowOf, opAt, fieldA, fieldB, fieldN, stepAt}
 use Rattle.kinds.specs.Forms.{formOf}
-use Rattle.kinds.proofs.Readable.{kind-not-refused, rowAt, step-missing, readable-step, step-readable}
+use Rattle.kinds.proofs.Readable.{rowAt, step-below, readable-step, step-readable}
 use Rattle.blocks.specs.Blocks.{View, stands, seen, viewAt, partnerBy, partnerOf}
 use Rattle.blocks.specs.Parse.{ParsedBlock, empty, more, ParsedStep, plain, pausing, ifOnly, ifElse, loop}
-use Rattle.blocks.proofs.Views.{view-beyond, view-seen, stands-within}
+use Rattle.blocks.proofs.Views.{view-seen, standing-below}
 
 -- partnerBy's look at place p, by the form of the step there instead of its op
 abbrev pub lookAt : Form → (ℕ → ℕ) → ℕ → ℕ → ℕ
@@ -45,17 +44,10 @@ kind-seen : (x : Step) {f : Form} → seen x ≡ stands f → (k : Kind) × (x �
 kind-seen (step.Kind k) h = (k, refl, cc)
 kind-seen step.Refused h = (Else, cc, cc)
 
--- a step that is read has its bytes in the book, and its row's kind
+-- a step that is read has its row's kind
 module _ (counts : Counts) (s : List ℕ) (i : ℕ) where
-  step-below : {k : Kind} → stepAt counts s i ≡ step.Kind k → i < length s / stepBytes
-  step-below e =
-      elim (decLt i (length s / stepBytes)) [
-        | yes h ↦ h
-        | no h ↦ absurd (kind-not-refused (sym e ∙ step-missing counts s i (omega arith)))
-      ]
-
   pub row-kind : {k : Kind} → stepAt counts s i ≡ step.Kind k → rowAt counts s i .4 ≡ k
-  row-kind e = cc (readable-step counts s i (step-below e) (step-readable counts s i e))
+  row-kind e = cc (readable-step counts s i (step-below counts s i e) (step-readable counts s i e))
 
 -- what holds of a row, and what holds of the rows behind it
 infixr 5 _and_
@@ -115,11 +107,8 @@ module _ (counts : Counts) (s : List ℕ) (n : ℕ) where
   abbrev at : ℕ → View
   at = viewAt counts s n
 
-  place-below : (p : ℕ) {f : Form} → at p ≡ stands f → p < n
-  place-below p h = stands-within at n (view-beyond counts s n) p h
-
   seen-there : (p : ℕ) {f : Form} → at p ≡ stands f → seen (stepAt counts s p) ≡ stands f
-  seen-there p h = sym (view-seen counts s n p (place-below p h)) ∙ h
+  seen-there p h = sym (view-seen counts s n p (standing-below counts s n p h)) ∙ h
 
   -- a step that stands at a place is one of the kinds
   pub kind-there : (p : ℕ) {f : Form} → at p ≡ stands f → (k : Kind) × (stepAt counts s p ≡ step.Kind k) × (formOf k ≡ f)
@@ -132,7 +121,7 @@ module _ (counts : Counts) (s : List ℕ) (n : ℕ) where
   found-look : (d p : ℕ) {f : Form} → at p ≡ stands f → found d p ≡ lookAt f (λ c. found c (suc p)) d p
   unfolding partnerOf
   found-look d p h =
-      let left : n - p ≡ suc (n - suc p) = omega (arith, place-below p h) in
+      let left : n - p ≡ suc (n - suc p) = omega (arith, standing-below counts s n p h) in
       rw (left, add-one p) (step-look (λ c. found c (suc p)) d p counts s p (seen-there p h))
 
   -- within an inner pair an else is passed over, and an end closes the pair

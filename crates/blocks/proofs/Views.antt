@@ -8,7 +8,7 @@ use native.Mathlib.Decide.{decLt}
 use native.Mathlib.Numerals.{add-one}
 use native.Mathlib.Omega.{arith}
 use borrow.Author.Tests.{lt-ltb, le-ltb}
-use Rattle.numbers.specs.Choice.{if_then_else_}
+use Rattle.numbers.proofs.Tests.{by-test}
 use Rattle.kinds.specs.declared.Step.{Step}
 use Rattle.kinds.specs.declared.Step.the-variants as step
 use Rattle.kinds.specs.declared.Counts.{Counts}
@@ -57,14 +57,14 @@ module _ (at : ℕ → View) (n : ℕ) (out : (p : ℕ) → n ≤ p → at p ≡
   pub stands-within : {f : Form} (p : ℕ) → at p ≡ stands f → p < n
   stands-within p h = within p (stands-not-beyond h)
 
+-- a step that stands at a place of a routine is one of its steps
+pub standing-below : (counts : Counts) (part : List ℕ) (n p : ℕ) {f : Form} → viewAt counts part n p ≡ stands f → p < n
+standing-below counts part n p h = stands-within (viewAt counts part n) n (view-beyond counts part n) p h
+
 -- what an answer says: P of what is past, F of a fault
 abbrev pub Says : (ℕ → Bool → ℕ → Type 0) → (Fault → Type 0) → Walk → Type 0
 Says P F (walk.Past q u l) = P q u l
 Says P F (walk.Fault f) = F f
-
-pub by-test : (Q : Walk → Type 0) (t : Bool) (a b : Walk) → (t ≡ true → Q a) → (t ≡ false → Q b) → Q (if t then a else b)
-by-test Q true a b f g = f refl
-by-test Q false a b f g = g refl
 
 module _ (P Q : ℕ → Bool → ℕ → Type 0) (F : Fault → Type 0) where
   pub says-more : (w : Walk) → Says P F w → ((q : ℕ) (u : Bool) (l : ℕ) → P q u l → Q q u l) → Says Q F w
@@ -98,10 +98,6 @@ else-at beyond e = cc
 else-at unreadable e = cc
 else-at (stands f) e = ap stands (else-marker f e)
 
--- an else stands among the routine's steps
-pub else-below : (counts : Counts) (part : List ℕ) (n p : ℕ) → elseAt (viewAt counts part n p) ≡ true → p < n
-else-below counts part n p h = stands-within (viewAt counts part n) n (view-beyond counts part n) p (else-at _ h)
-
 -- where a step that holds blocks ends
 pub says-closed :
     (P : ℕ → Bool → ℕ → Type 0) (F : Fault → Type 0) (x : View) (p q : ℕ) (u : Bool) (l : ℕ) →
@@ -111,4 +107,4 @@ pub says-closed :
 says-closed P F beyond p q u l a b c d = a refl
 says-closed P F unreadable p q u l a b c d = b refl
 says-closed P F (stands f) p q u l a b c d =
-    by-test (Says P F) (isEnd f) _ _ (λ e. rw add-one (d (rw (end-marker f e)))) (λ e. c f refl e)
+    by-test (Says P F) (isEnd f) (λ e. rw add-one (d (rw (end-marker f e)))) (λ e. c f refl e)

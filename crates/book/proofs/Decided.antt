@@ -2,13 +2,13 @@
 -- A check of a row of places goes by the test at each; those on blocks go by the walk over the routine.
 use Prim.Native.Nat.{ℕ, _+_, _<_, _≤_}
 use mathlib.Core.Path.{_≡_, refl, _∙_, ap}
-use mathlib.Core.Bool.{Bool, true, false}
 use mathlib.Core.List.{List}
 use native.Mathlib.Decide.{decLt}
 use native.Mathlib.Omega.{arith}
 use lib.Dec.{eqb}
 use lib.ListN.{length}
 use borrow.Author.Tests.{eqb-true, le-leb, lt-leb, lt-ltb, le-ltb, eq-eqb, ne-eqb}
+use Rattle.numbers.proofs.Tests.{not-true-false}
 use Rattle.book.specs.declared.Verdict.{Verdict}
 use Rattle.kinds.specs.declared.Kind.{Kind}
 use Rattle.kinds.specs.declared.Step.{Step}
@@ -37,10 +37,6 @@ use Rattle.blocks.proofs.Faults.{misnested, unreadable-at}
 use Rattle.blocks.proofs.Order.{misplaced-fault}
 use Rattle.blocks.proofs.Whiles.{LowestAt, lowest-none, pausing-lowest, lowest-at, lowest-within, lowest-is}
 
-failed : (t : Bool) → (t ≡ true → ⊥) → t ≡ false
-failed true h = absurd (h refl)
-failed false h = refl
-
 -- a test of the directory that tells nothing
 equal : (a b r : ℕ) → unless (eqb a b) (refused 4 r) .number ≡ 0 → a ≡ b
 equal a b r e = eqb-true a b (passed (eqb a b) 4 r (λ z. omega (arith, z)) e)
@@ -53,11 +49,11 @@ module _ (s : List ℕ) where
 
   pub counts-told : headerBytes ≤ length s → (CountsInRange s → ⊥) → layoutVerdict s ≡ refused 2 0
   unfolding layoutVerdict
-  counts-told h n = rw (le-leb _ _ h, failed (countsFit s) (λ e. n (counts-in-range s e)))
+  counts-told h n = rw (le-leb _ _ h, not-true-false (countsFit s) (λ e. n (counts-in-range s e)))
 
   pub offsets-told : headerBytes ≤ length s → CountsInRange s → (OffsetsRight s → ⊥) → layoutVerdict s ≡ refused 3 0
   unfolding layoutVerdict
-  offsets-told h c n = rw (le-leb _ _ h, counts-fit s c, failed (layoutFits s) (λ e. n (offsets-in-place s e)))
+  offsets-told h c n = rw (le-leb _ _ h, counts-fit s c, not-true-false (layoutFits s) (λ e. n (offsets-in-place s e)))
 
   -- check 4: the entries, and then the total
   pub entries-decided : Decides (entryVerdict s) (routinesOf s) (λ r. firstStep s r ≡ stepsBefore s r)

@@ -1,12 +1,13 @@
 -- Checks 1 to 3 tell nothing exactly where a book is laid out as document 01 says: each test of the verdict is a clause of `LaidOut`.
 use Prim.Native.Nat.{ℕ}
 use mathlib.Core.Path.{_≡_, refl}
-use mathlib.Core.Bool.{Bool, true, false, _&&_}
+use mathlib.Core.Bool.{Bool, true, false}
 use mathlib.Core.List.{List}
 use lib.ListN.{length}
 use lib.Dec.{leb}
 use native.Mathlib.Omega.{arith}
 use borrow.Author.Tests.{leb-true, eqb-true, le-leb, eq-eqb}
+use Rattle.numbers.proofs.Tests.{and-both}
 use Rattle.book.specs.Verdicts.{accepted, refused, unless}
 use Rattle.book.specs.Layout.{headerBytes, countsFit, layoutFits, layoutVerdict}
 use Rattle.book.specs.Accepted.{CountsInRange, OffsetsRight, LaidOut}
@@ -17,16 +18,12 @@ pub passed : (t : Bool) (k p : ℕ) → (k ≡ 0 → ⊥) → unless t (refused 
 passed true k p h e = refl
 passed false k p h e = absurd (h e)
 
-both : (a b : Bool) → (a && b) ≡ true → (a ≡ true) × (b ≡ true)
-both true b e = (refl, e)
-both false b e = let z : _≡_ {A = ℕ} 0 1 = cc in absurd (omega arith)
-
 pub counts-in-range : (s : List ℕ) → countsFit s ≡ true → CountsInRange s
 counts-in-range s e =
-    let counters = both _ _ e in
-    let signals = both _ _ (counters .0) in
-    let steps = both _ _ (signals .0) in
-    let routines = both _ _ (steps .0) in
+    let counters = and-both _ _ e in
+    let signals = and-both _ _ (counters .0) in
+    let steps = and-both _ _ (signals .0) in
+    let routines = and-both _ _ (steps .0) in
     record {
       someRoutine = leb-true _ _ (routines .0);
       fewRoutines = leb-true _ _ (routines .1);
@@ -47,8 +44,8 @@ counts-fit s c =
 
 pub offsets-in-place : (s : List ℕ) → layoutFits s ≡ true → OffsetsRight s
 offsets-in-place s e =
-    let size = both _ _ e in
-    let offsets = both _ _ (size .0) in
+    let size = and-both _ _ e in
+    let offsets = and-both _ _ (size .0) in
     record { directoryAt = eqb-true _ _ (offsets .0); stepsAt = eqb-true _ _ (offsets .1); size = eqb-true _ _ (size .1) }
 
 pub layout-fits : (s : List ℕ) → OffsetsRight s → layoutFits s ≡ true

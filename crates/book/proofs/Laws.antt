@@ -2,7 +2,7 @@
 -- That part is the routine's own steps, so its steps and places are those of the book.
 -- As functions the places are equal, so what the book's clauses say of the one holds of the other.
 use Prim.Native.Nat.{ℕ, suc, _+_, _-_, _*_, _/_, _≤_, _<_}
-use mathlib.Core.Path.{_≡_, _∙_, fun-ext, subst⁻¹}
+use mathlib.Core.Path.{_≡_, refl, _∙_, fun-ext, subst⁻¹}
 use mathlib.Core.Bool.{and-false}
 use mathlib.Core.List.{List, []}
 use mathlib.Core.Logic.{_⊎_}
@@ -30,6 +30,25 @@ use Rattle.book.proofs.Telling.{told-only}
 -- what stands at a place of what is shown of routine r
 abbrev pub shownAt : List ℕ → ℕ → ℕ → View
 shownAt s r = viewAt (countsOf s) (shown s r) (stepCount s r)
+
+-- a parse whose whiles pause
+abbrev pub PausingParse : (ℕ → View) → ℕ → Type 0
+PausingParse at e = (b : ParsedBlock at deepest 0 e) × WhilesPause at b
+
+module _ (s : List ℕ) (r : ℕ) where
+  own-place : (p : ℕ) → viewAt (countsOf s) (routineSteps s r) (stepCount s r) p ≡ viewOf s r p
+  unfolding viewAt
+  own-place p =
+      elim (decLt p (stepCount s r)) [
+        | yes l ↦ rw (lt-ltb p (stepCount s r) l, step-taken (stepCount s r) (routinePart s r) p l (countsOf s))
+        | no n ↦ rw (le-ltb p (stepCount s r) (omega arith))
+      ]
+
+  -- what the book's clauses say of a routine's places and their number holds of those of its own steps
+  pub own-places :
+      {steps : List ℕ} {n : ℕ} → steps ≡ routineSteps s r → n ≡ stepCount s r → (P : (ℕ → View) → ℕ → Type 0) →
+      P (viewOf s r) (stepCount s r) → P (viewAt (countsOf s) steps n) n
+  own-places e k P h = rw (e, k) (subst⁻¹ (λ at. P at (stepCount s r)) (fun-ext own-place) h)
 
 -- a number not below R shows nothing, whatever the book is told
 pub shown-none : (s : List ℕ) (r : ℕ) → routinesOf s ≤ r → shown s r ≡ []
@@ -66,31 +85,17 @@ module _ (s : List ℕ) (a : Accepted s) where
     shown-steps = rw shown-size (mul-div-right (stepCount s r) (omega arith))
 
     -- its steps are those of its part of the book, and so those where the directory says
-    shown-own : (i : ℕ) → i < stepCount s r → stepAt (countsOf s) (shown s r) i ≡ stepAt (countsOf s) (routinePart s r) i
-    shown-own i l = rw shown-routine (step-taken (stepCount s r) (routinePart s r) i l (countsOf s))
-
     pub shown-step : (i : ℕ) → i < stepCount s r → stepAt (countsOf s) (shown s r) i ≡ stepAt (countsOf s) (stepsPart s) (firstStep s r + i)
-    shown-step i l = shown-own i l ∙ step-routine s r (countsOf s) i
+    shown-step i l =
+        rw shown-routine (step-taken (stepCount s r) (routinePart s r) i l (countsOf s)) ∙ step-routine s r (countsOf s) i
 
     pub shown-kind : (i : ℕ) → i < stepCount s r → (k : Kind) × (stepAt (countsOf s) (shown s r) i ≡ step.Kind k)
     shown-kind i l =
         let (k, e) = step-kind (firstStep s r + i) (omega (arith, routine-within r h)) in
         (k, shown-step i l ∙ e)
 
-    pub shown-place : (p : ℕ) → shownAt s r p ≡ viewOf s r p
-    unfolding viewAt
-    shown-place p =
-        elim (decLt p (stepCount s r)) [
-          | yes l ↦ rw (lt-ltb p (stepCount s r) l, shown-own p l)
-          | no n ↦ rw (le-ltb p (stepCount s r) (omega arith))
-        ]
-
-    pub shown-places : shownAt s r ≡ viewOf s r
-    shown-places = fun-ext shown-place
-
-    parsed : (b : ParsedBlock (shownAt s r) deepest 0 (stepCount s r)) × WhilesPause (shownAt s r) b
-    parsed =
-        subst⁻¹ (λ at. (b : ParsedBlock at deepest 0 (stepCount s r)) × WhilesPause at b) shown-places (a .nesting r h, a .pausing r h)
+    parsed : PausingParse (shownAt s r) (stepCount s r)
+    parsed = own-places s r shown-routine refl PausingParse (a .nesting r h, a .pausing r h)
 
     -- "Nesting goes to depth 16."
     pub shown-parse : ParsedBlock (shownAt s r) deepest 0 (stepCount s r)

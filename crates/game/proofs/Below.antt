@@ -1,29 +1,13 @@
--- Tests: what a joined one says, a choice by one, and one at each, or at one, of the first n numbers, with one turn of a loop over them.
+-- A test at each, or at one, of the first n numbers, with one turn of a loop over them.
 -- By induction on n: the last of the first n + 1 numbers is n itself.
 use Prim.Native.Nat.{ℕ, zero, suc, _+_, _<_, _≤_}
 use mathlib.Core.Path.{_≡_, refl, sym}
-use mathlib.Core.Bool.{Bool, true, false, _&&_, true≢false, Bool-discrete, and-false, or-true, or-false}
+use mathlib.Core.Bool.{Bool, true, false, true≢false, Bool-discrete, and-false, or-true, or-false}
 use native.Mathlib.Omega.{arith}
 use native.Mathlib.Decide.{ℕ-discrete}
 use native.Mathlib.Numerals.{add-one}
-use Rattle.numbers.specs.Choice.{if_then_else_}
+use Rattle.numbers.proofs.Tests.{and-both, both-true, not-true-false}
 use Rattle.game.specs.Below.{allBelow, anyBelow}
-
-pub and-both : (a b : Bool) → (a && b) ≡ true → (a ≡ true) × (b ≡ true)
-and-both true b h = (refl, h)
-and-both false b h = absurd (true≢false (sym h))
-
-pub not-true-false : (b : Bool) → (b ≡ true → ⊥) → b ≡ false
-not-true-false true n = absurd (n refl)
-not-true-false false n = refl
-
-pub both-true : {a b : Bool} → a ≡ true → b ≡ true → (a && b) ≡ true
-both-true h k = rw (h, k)
-
--- a claim on both sides of a choice, each where it is taken, holds of what is taken
-pub by-test : {A : Type 0} (P : A → Type 0) (t : Bool) {x y : A} → (t ≡ true → P x) → (t ≡ false → P y) → P (if t then x else y)
-by-test P true p q = p refl
-by-test P false p q = q refl
 
 module _ (test : ℕ → Bool) where
   pub all-holds : (n : ℕ) → allBelow n test ≡ true → (i : ℕ) → i < n → test i ≡ true

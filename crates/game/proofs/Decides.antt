@@ -12,6 +12,7 @@ use lib.ListN.{getD}
 use lib.IntN.{ℤ, pos, negsuc}
 use lib.Signed.{_≤ℤ_, leZ}
 use Rattle.numbers.specs.Numbers.{lowestCounter, highestCounter, isWithin}
+use Rattle.numbers.proofs.Tests.{and-both}
 use Rattle.kinds.specs.declared.Counts.{Counts}
 use Rattle.book.specs.Layout.{mostRoutines, mostSignals, mostCounters, routinesOf}
 use Rattle.book.specs.Book.{countsOf}
@@ -21,7 +22,6 @@ use Rattle.game.specs.Lines.{mostEntries}
 use Rattle.game.specs.Game.{blank, routineAt}
 use Rattle.game.specs.Fitting.{sameCounts, slotFits, countersFit, signalsFit, fitsBook}
 use Rattle.game.specs.Fits.{In, BothLists, Fits}
-use Rattle.game.proofs.Below.{and-both}
 use Rattle.game.proofs.Tests.{not-less, equal, fails, and-then, both, or-else, by-order, each}
 use Rattle.game.proofs.Lists.{LineRight, is-in, line-right}
 use Rattle.game.proofs.Routines.{RoutineRight, routine-right, is-blank}

@@ -9,6 +9,7 @@ use borrow.Author.Tests.{eqb-true, eqb-false, eq-eqb, lt-ltb}
 use lib.Dec.{eqb}
 use lib.Seq.{getD-set-same}
 use Rattle.numbers.specs.Choice.{if_then_else_}
+use Rattle.numbers.proofs.Tests.{not-true-false, by-test}
 use Rattle.book.specs.Layout.{routinesOf}
 use Rattle.book.specs.Accepted.{CountsInRange}
 use Rattle.game.specs.declared.Line.{Line}
@@ -16,7 +17,6 @@ use Rattle.game.specs.declared.Game.{Game}
 use Rattle.game.specs.Lines.{mostEntries, itemAt, isIn}
 use Rattle.game.specs.Game.{notStarted, routineAt, withStart, Sized}
 use Rattle.game.specs.Fits.{In, Fits}
-use Rattle.game.proofs.Below.{not-true-false, by-test}
 use Rattle.game.proofs.Lists.{LineRight, is-in}
 use Rattle.game.proofs.Decides.{fit-lists}
 

@@ -83,13 +83,17 @@ module _ (counts : Counts) (s : List ℕ) (i : ℕ) where
   unfolding stepAt
   step-missing h = rw (le-ltb i (length s / stepBytes) h)
 
+  -- a step that is not there is none of the kinds
+  pub step-below : {k : Kind} → stepAt counts s i ≡ step.Kind k → i < length s / stepBytes
+  step-below e =
+      elim (decLt i (length s / stepBytes)) [
+        | yes h ↦ h
+        | no n ↦ absurd (kind-not-refused (sym e ∙ step-missing (omega arith)))
+      ]
+
   pub readable-step : i < length s / stepBytes → ReadableAt counts s i → stepAt counts s i ≡ step.Kind (rowAt counts s i .4)
   readable-step h r = step-there h ∙ readable-kind counts (opAt s i) (fieldA s i) (fieldB s i) (fieldN s i) r
 
-  -- a step that is not there is none of the kinds, so this direction does not ask for its bytes
+  -- a step that is one of the kinds is there, so this direction does not ask for its bytes
   pub step-readable : {k : Kind} → stepAt counts s i ≡ step.Kind k → ReadableAt counts s i
-  step-readable e =
-      elim (decLt i (length s / stepBytes)) [
-        | yes h ↦ kind-readable counts (opAt s i) (fieldA s i) (fieldB s i) (fieldN s i) (sym (step-there h) ∙ e)
-        | no n ↦ absurd (kind-not-refused (sym e ∙ step-missing (omega arith)))
-      ]
+  step-readable e = kind-readable counts (opAt s i) (fieldA s i) (fieldB s i) (fieldN s i) (sym (step-there (step-below e)) ∙ e)

@@ -38,7 +38,8 @@ timed-left (step.Kind (While a b n)) k h = absurd (omega arith)
 timed-left (step.Kind End) k h = absurd (omega arith)
 timed-left step.Refused k h = absurd (omega arith)
 
-timed-count : {st : Step} {n : ℕ} → Timed st n → timedCount st ≡ n
+-- a timed step has one n
+pub timed-count : {st : Step} {n : ℕ} → Timed st n → timedCount st ≡ n
 timed-count restFor = refl
 timed-count waitFor = refl
 timed-count joinFor = refl

@@ -3,9 +3,9 @@
 use mathlib.Core.Path.{_≡_}
 use lib.Dec.{eqb}
 use borrow.Author.Tests.{ne-eqb}
+use Rattle.numbers.proofs.Tests.{by-test}
 use Rattle.book.specs.declared.Verdict.{Verdict}
 use Rattle.game.specs.declared.Game.{Game}
-use Rattle.game.proofs.Below.{by-test}
 use Rattle.orders.specs.SetUp.{unlessRefused}
 
 module _ (v : Verdict) (given lent : Game) where

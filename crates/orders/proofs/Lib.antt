@@ -7,4 +7,5 @@ pub mod Joins
 pub mod Obeyed
 pub mod SetUp
 pub mod Starts
+pub mod Stores
 pub mod Telling

@@ -1,13 +1,13 @@
 -- The game after an order that is obeyed fits the book if the one before it did, its arrays are as long as they were,
 -- and obeying the order again changes nothing. By kind; a routine that is replaced differs in its flags only.
 use Prim.Native.Nat.{ℕ, zero, suc, _<_}
-use mathlib.Core.Path.{_≡_, refl, sym, _∙_, ap}
+use mathlib.Core.Path.{_≡_, refl, _∙_, ap}
 use mathlib.Core.Bool.{Bool, true, false}
 use mathlib.Core.List.{List}
 use native.Mathlib.Omega.{arith}
 use native.Mathlib.Decide.{decLt}
-use lib.ListN.{length, getD, set, length-set, List·getD-map}
-use lib.Seq.{getD-set-same, getD-set-other, set-out, set-set, map-set-same}
+use lib.ListN.{length, getD, set, length-set}
+use lib.Seq.{getD-set-same, getD-set-other, set-out, set-set}
 use Rattle.book.specs.Layout.{routinesOf}
 use Rattle.book.specs.Book.{countsOf}
 use Rattle.game.specs.declared.Routine.{Routine}
@@ -18,12 +18,9 @@ use Rattle.game.specs.Fits.{Fits}
 use Rattle.orders.specs.Orders.{orderCount, obeyed}
 use Rattle.orders.proofs.Changed.{same-flags, same-starts, changed-fits, changed-sized}
 use Rattle.orders.proofs.Starts.{starts-start, start-sized, start-again}
+use Rattle.orders.proofs.Stores.{same-set}
 
 module _ {A : Type 0} (l : List A) (n : ℕ) (d : A) where
-  -- what is said of the entries stays, if it is said of the one put in place n too
-  set-kept : {B : Type 0} (f : A → B) (y : A) → f y ≡ f (getD l n d) → (r : ℕ) → f (getD (set l n y) r d) ≡ f (getD l r d)
-  set-kept f y e r = sym (List·getD-map f (set l n y) r d) ∙ ap (λ m. getD m r (f d)) (map-set-same f l n y d e) ∙ List·getD-map f l r d
-
   -- a change of entry n that is the same twice as once
   set-again :
       (f : A → A) → ((a : A) → f (f a) ≡ f a) →
@@ -44,10 +41,10 @@ module _ (s : List ℕ) (g : Game) (f : Fits s g) where
       changed-fits f
       (record {
         beyond = λ r a b. getD-set-other l n r y blank (λ e. omega arith) ∙ f .routinesBeyond r a b;
-        stage = set-kept l n blank (λ x. x .stage) y refl;
-        place = set-kept l n blank (λ x. x .place) y refl;
-        left = set-kept l n blank (λ x. x .left) y refl;
-        begun = set-kept l n blank (λ x. x .begun) y refl;
+        stage = same-set (λ x. x .stage) l n y blank refl;
+        place = same-set (λ x. x .place) l n y blank refl;
+        left = same-set (λ x. x .left) l n y blank refl;
+        begun = same-set (λ x. x .begun) l n y blank refl;
       })
       (same-starts f) (f .signalsBeyond)
 

@@ -5,23 +5,19 @@ use mathlib.Core.Path.{_≡_, refl, sym, _∙_}
 use mathlib.Core.Bool.{true, false, _&&_, not, true≢false, and-false}
 use mathlib.Core.List.{List}
 use native.Mathlib.Omega.{arith}
-use native.Mathlib.Decide.{ℕ-discrete}
 use borrow.Author.Tests.{ltb-true, eqb-true, not-true}
 use lib.Dec.{ltb, eqb}
-use lib.ListN.{length, set, length-set}
+use lib.ListN.{length, length-set}
 use lib.Seq.{getD-set-same, getD-set-other}
+use Rattle.numbers.proofs.Tests.{and-both, by-test}
 use Rattle.book.specs.Layout.{routinesOf}
 use Rattle.game.specs.declared.Line.{Line}
 use Rattle.game.specs.declared.Game.{Game}
-use Rattle.game.specs.Lines.{mostEntries, itemAt, isIn}
+use Rattle.game.specs.Lines.{mostEntries, itemAt, isIn, joined}
 use Rattle.game.specs.Game.{notStarted, routineAt, withStart}
-use Rattle.game.proofs.Below.{and-both, by-test}
 use Rattle.game.proofs.Lists.{LineRight, is-in}
 use Rattle.orders.proofs.Changed.{Starts}
-
--- routine r behind the last entry
-abbrev joined : Line → ℕ → Line
-joined l r = record { items = set (l .items) (l .len) r; len = l .len + 1 }
+use Rattle.orders.proofs.Stores.{set-each}
 
 module _ (l : Line) (r stage : ℕ) where
   -- a claim on the list after a start: nothing was added, or a routine in stage 0 that was not in it
@@ -44,18 +40,14 @@ module _ (l : Line) (r stage : ℕ) where
 
 module _ (l : Line) (r : ℕ) (z : length (l .items) ≡ mostEntries) where
   module _ (room : l .len < mostEntries) where
+    inside : l .len < length (l .items)
+    inside = omega arith
+
     joined-last : itemAt (joined l r) (l .len) ≡ r
-    joined-last = getD-set-same (l .items) (l .len) r 0 (omega arith)
+    joined-last = getD-set-same (l .items) (l .len) r 0 inside
 
     joined-before : (i : ℕ) → (i ≡ l .len → ⊥) → itemAt (joined l r) i ≡ itemAt l i
     joined-before i n = getD-set-other (l .items) (l .len) i r 0 n
-
-    -- a claim on each entry, the last one and the others
-    joined-each :
-        (P : ℕ → ℕ → Type 0) → P (l .len) r → ((i : ℕ) → (i ≡ l .len → ⊥) → P i (itemAt l i)) →
-        (i : ℕ) → P i (itemAt (joined l r) i)
-    joined-each P last others i =
-        elim (ℕ-discrete i (l .len)) [ yes e ↦ rw (e, joined-last) last | no n ↦ rw (joined-before i n) (others i n) ]
 
     joined-in : isIn (joined l r) r ≡ true
     joined-in = is-in (joined l r) (omega arith) r .1 (l .len, omega arith, joined-last)
@@ -64,13 +56,15 @@ module _ (l : Line) (r : ℕ) (z : length (l .items) ≡ mostEntries) where
     joined-right {routines} t below new =
         record {
           short = omega arith;
-          entries = joined-each (λ i v. i < l .len + 1 → v < routines) (λ a. below) (λ i n a. t .entries i (omega arith));
+          entries =
+              set-each (l .items) (l .len) r 0 (λ i v. i < l .len + 1 → v < routines) inside (λ a. below)
+              (λ i n a. t .entries i (omega arith));
           beyond =
-              joined-each (λ i v. l .len + 1 ≤ i → i < mostEntries → v ≡ 0) (λ a b. absurd (omega arith))
+              set-each (l .items) (l .len) r 0 (λ i v. l .len + 1 ≤ i → i < mostEntries → v ≡ 0) inside (λ a b. absurd (omega arith))
               (λ i n a. t .beyond i (omega arith));
           once =
               λ i.
-              joined-each (λ j v. i < j → j < l .len + 1 → itemAt (joined l r) i ≡ v → ⊥)
+              set-each (l .items) (l .len) r 0 (λ j v. i < j → j < l .len + 1 → itemAt (joined l r) i ≡ v → ⊥) inside
               (λ a b e. true≢false (sym (is-in l (t .short) r .1 (i, a, sym (joined-before i (λ k. omega arith)) ∙ e)) ∙ new))
               (λ j n a b e. t .once i j a (omega arith) (sym (joined-before i (λ k. omega arith)) ∙ e));
         }
@@ -81,9 +75,9 @@ module _ (l : Line) (r : ℕ) (z : length (l .items) ≡ mostEntries) where
       record {
         line = joined-right room (t .line) below new;
         starting =
-            λ k inside.
-            joined-each room (λ i v. i < l .len + 1 → v ≡ k → routineAt g k .stage ≡ notStarted) (λ a e. rw (← e) stage)
-            (λ i n a e. t .starting k (i, omega arith, e)) (inside .0) (inside .1) (inside .2);
+            λ k (i, h, e).
+            set-each (l .items) (l .len) r 0 (λ i v. i < l .len + 1 → v ≡ k → routineAt g k .stage ≡ notStarted) (inside room)
+            (λ a e. rw (← e) stage) (λ i n a e. t .starting k (i, omega arith, e)) i h e;
       })
 
   pub start-again : (stage : ℕ) → withStart (withStart l r stage) r stage ≡ withStart l r stage

@@ -7,6 +7,7 @@ use mathlib.Core.List.{List}
 use native.Mathlib.Omega.{arith}
 use native.Mathlib.Decide.{decLt}
 use borrow.Author.Tests.{lt-ltb, le-ltb}
+use Rattle.numbers.proofs.Tests.{not-true-false}
 use Rattle.book.specs.declared.Verdict.{Verdict}
 use Rattle.book.specs.Verdicts.{refused, _orElse_}
 use Rattle.book.specs.Book.{countsOf, bookVerdict}
@@ -17,7 +18,6 @@ use Rattle.book.proofs.Telling.{tells, told-only, number-accepted}
 use Rattle.game.specs.declared.Game.{Game}
 use Rattle.game.specs.Fitting.{fitsBook}
 use Rattle.game.specs.Fits.{Fits}
-use Rattle.game.proofs.Below.{not-true-false}
 use Rattle.game.proofs.Decides.{fits-decides}
 use Rattle.orders.specs.Orders.{orderCount, fitVerdict, orderVerdict}
 use Rattle.orders.specs.Tells.{OrderTells}

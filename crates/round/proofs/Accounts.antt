@@ -3,7 +3,7 @@
 -- none elsewhere, and a step that halts the turn of none, the same holds of a turn and of a round.
 use Prim.Native.Nat.{ℕ, _+_, _≤_}
 use mathlib.Core.Path.{_≡_, refl, sym, _∙_}
-use mathlib.Core.Bool.{Bool, true, false, _||_, not, true≢false}
+use mathlib.Core.Bool.{Bool, true, false, not, true≢false}
 use mathlib.Core.List.{List, [], _∷_, _++_}
 use native.Mathlib.Decide.{ℕ-discrete}
 use native.Mathlib.Omega.{arith}
@@ -11,6 +11,7 @@ use borrow.Author.Tests.{ne-eqb}
 use lib.Dec.{eqb}
 use lib.ListN.{length}
 use Rattle.numbers.specs.Choice.{if_then_else_}
+use Rattle.numbers.proofs.Tests.{neither}
 use Rattle.book.specs.Book.{countsOf, routineSteps}
 use Rattle.game.specs.declared.Game.{Game}
 use Rattle.round.specs.declared.Position.{Position}
@@ -64,12 +65,8 @@ numbers-few (marked r n ∷ told) = numbers-few told
 numbers-few (completed r p ∷ told) = numbers-few told
 
 -- an op that tells of neither a signal nor a mark, and one of a signal
-neither : (op : ℕ) → isTelling op ≡ false → (isSignalOp op ≡ false) × (eqb op opMark ≡ false)
-neither op h = parts (isSignalOp op) (eqb op opMark) h
-  where
-    parts : (a b : Bool) → (a || b) ≡ false → (a ≡ false) × (b ≡ false)
-    parts true b h = absurd (true≢false h)
-    parts false b h = (refl, h)
+tells-neither : (op : ℕ) → isTelling op ≡ false → (isSignalOp op ≡ false) × (eqb op opMark ≡ false)
+tells-neither op = neither (isSignalOp op) (eqb op opMark)
 
 no-mark : (op : ℕ) → isSignalOp op ≡ true → eqb op opMark ≡ false
 no-mark op h = elim (ℕ-discrete op opMark) [ yes e ↦ absurd (true≢false (sym (rw e at h))) | no n ↦ ne-eqb op opMark n ]
@@ -117,21 +114,21 @@ module _ (book : List ℕ) where
         (e : Effect) (told : List Happening) → Says (countsOf book) r (routineSteps book r) x s e told →
         Balanced givesSignal (isSignalStep book) (completed r (x .place) ∷ told)
     unfolding howMany
-    signal-told e told (silent g o) = rw (neither _ o .0)
+    signal-told e told (silent g o) = rw (tells-neither _ o .0)
     signal-told e told (marks o) = rw o
     signal-told e told (gives o) = rw o
     signal-told e told (givesNumber o) = rw o
-    signal-told e told (finds g o h) = rw (neither _ o .0)
+    signal-told e told (finds g o h) = rw (tells-neither _ o .0)
 
     mark-told :
         (e : Effect) (told : List Happening) → Says (countsOf book) r (routineSteps book r) x s e told →
         Balanced isMarked (isMarkStep book) (completed r (x .place) ∷ told)
     unfolding howMany
-    mark-told e told (silent g o) = rw (neither _ o .1)
+    mark-told e told (silent g o) = rw (tells-neither _ o .1)
     mark-told e told (marks o) = rw o
     mark-told e told (gives o) = rw (no-mark _ o)
     mark-told e told (givesNumber o) = rw (no-mark _ o)
-    mark-told e told (finds g o h) = rw (neither _ o .1)
+    mark-told e told (finds g o h) = rw (tells-neither _ o .1)
 
   pub turn-signals : (r : ℕ) (s : State) → Balanced givesSignal (isSignalStep book) (turn book r s .told)
   turn-signals = turn-balanced givesSignal (isSignalStep book) signal-told (λ r. refl) (λ r p t. refl)

@@ -15,9 +15,9 @@ use Rattle.game.specs.declared.Game.{Game}
 use Rattle.game.specs.Lines.{empty, entriesOf, appended}
 use Rattle.game.specs.Game.{blank, routineAt, Sized}
 use Rattle.game.specs.Fits.{Fits}
+use Rattle.orders.proofs.Stores.{same-at}
 use Rattle.round.specs.Actions.{kept, each, positionOf, inStage1, inStage4, getsStopped, staysListed, withoutOrders, atStart}
 use Rattle.round.proofs.Along.{All}
-use Rattle.round.proofs.Maps.{same-at}
 use Rattle.round.proofs.Entries.{all-kept, kept-short, appended-entries, joined-below, joined-short}
 use Rattle.round.specs.History.{Among}
 

@@ -10,16 +10,16 @@ use borrow.Author.Tests.{eqb-true}
 use lib.Dec.{eqb}
 use lib.ListN.{length, List·getD-eq-default}
 use lib.Seq.{getD-set-same}
+use Rattle.numbers.proofs.Tests.{by-test}
 use Rattle.game.specs.declared.Routine.{Routine}
 use Rattle.game.specs.Game.{continuing, ended, blank, routineAt, withRoutine}
-use Rattle.game.proofs.Below.{by-test}
+use Rattle.orders.proofs.Stores.{same-set}
 use Rattle.round.specs.declared.Ending.{Ending}
 use Rattle.round.specs.declared.Ending.the-variants.{Ended, Rested, Missed, Continued}
 use Rattle.round.specs.declared.Position.{Position}
 use Rattle.round.specs.State.{State, withGame, Thing, signal, end, number, isThere}
 use Rattle.round.specs.Actions.{positionOf, placed}
 use Rattle.round.specs.Rounds.{Ticks, stageAfter, withEnd, afterTurn, passedOver, took, Played, isDone, ticksOf, turn}
-use Rattle.round.proofs.Maps.{same-set}
 use Rattle.round.proofs.Effects.{same-end}
 use Rattle.round.proofs.Seats.{SameSeat}
 use Rattle.round.proofs.TurnLaws.{isGoing}

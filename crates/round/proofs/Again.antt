@@ -8,13 +8,13 @@ use native.Mathlib.Numerals.{add-one}
 use native.Mathlib.Omega.{arith}
 use lib.Seq.{set-getD}
 use Rattle.numbers.specs.Choice.{if_then_else_}
+use Rattle.numbers.proofs.Tests.{not-true-false, by-test}
 use Rattle.kinds.specs.declared.Counts.{Counts}
 use Rattle.book.specs.Layout.{routinesOf}
 use Rattle.book.specs.Book.{countsOf, routineSteps}
 use Rattle.book.specs.Accepted.{Accepted}
 use Rattle.game.specs.declared.Routine.{Routine}
 use Rattle.game.specs.Game.{blank, routineAt, withRoutines, withRoutine}
-use Rattle.game.proofs.Below.{not-true-false, by-test}
 use Rattle.round.specs.declared.Ending.{Ending}
 use Rattle.round.specs.declared.Ending.the-variants.{Missed, Continued}
 use Rattle.round.specs.declared.Position.{Position}

@@ -8,16 +8,17 @@ use native.Mathlib.Omega.{arith}
 use lib.Dec.{leb}
 use borrow.Author.Tests.{leb-true, le-leb, lt-leb}
 use Rattle.numbers.specs.Choice.{if_then_else_}
+use Rattle.numbers.proofs.Tests.{and-both, both-true}
 use Rattle.kinds.specs.declared.Counts.{Counts}
 use Rattle.kinds.specs.declared.Form.the-variants.{Pausing}
 use Rattle.blocks.specs.Blocks.{stands, deepest}
 use Rattle.blocks.specs.Parse.{ParsedBlock, WhilesPause}
-use Rattle.game.proofs.Below.{and-both, both-true}
+use Rattle.blocks.proofs.Views.{standing-below}
 use Rattle.round.specs.Jumps.{sizeOf}
 use Rattle.round.specs.History.{countBelow}
 use Rattle.round.proofs.Counting.{count-le, count-drops}
 use Rattle.round.proofs.Leads.{isHalt, formAt, Leads}
-use Rattle.round.proofs.Falls.{rank, falls, going-below, standing-below}
+use Rattle.round.proofs.Falls.{rank, falls, going-below}
 
 module _ (counts : Counts) (steps : List ℕ) where
   module _ (b : ParsedBlock (formAt counts steps) deepest 0 (sizeOf steps)) (w : WhilesPause (formAt counts steps) b) where
@@ -57,5 +58,5 @@ module _ (counts : Counts) (steps : List ℕ) where
         ahead P q + (if P p then 1 else 0) ≤ countBelow P (sizeOf steps)
     unfolding ahead
     ahead-over P p q h =
-        count-drops (λ z. P z && isAhead q z) P (of-set P q) (sizeOf steps) p (standing-below counts steps p h)
+        count-drops (λ z. P z && isAhead q z) P (of-set P q) (sizeOf steps) p (standing-below counts steps (sizeOf steps) p h)
         (rw (h, and-false)) (P p) (λ there. there)

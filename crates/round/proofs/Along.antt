@@ -1,9 +1,10 @@
 -- What holds of each turn holds of a pass and of a round's passes: for any claim on two states and what is told between them that holds of
 -- a state and itself, and of one after the other. By induction on the listed routines, and on the passes allowed.
 use Prim.Native.Nat.{ℕ, zero, suc}
+use mathlib.Core.Path.{refl}
 use mathlib.Core.List.{List, [], _∷_, _++_}
 use mathlib.Core.Logic.{inl, inr}
-use Rattle.game.proofs.Below.{by-test}
+use Rattle.numbers.proofs.Tests.{by-test}
 use Rattle.round.specs.State.{State, Happening}
 use Rattle.round.specs.History.{Among}
 use Rattle.round.specs.Rounds.{Played, allDone, again, turn, pass, Round, instant}
@@ -21,6 +22,10 @@ pub among-all : (P : ℕ → Type 0) (r : ℕ) (rs : List ℕ) → All P rs → 
 among-all P r [] a h = absurd h
 among-all P r (q ∷ qs) a (inl e) = rw e (a .0)
 among-all P r (q ∷ qs) a (inr h) = among-all P r qs (a .1) h
+
+pub each-among : (P : ℕ → Type 0) (rs : List ℕ) → ((r : ℕ) → Among r rs → P r) → All P rs
+each-among P [] h = tt
+each-among P (r ∷ rs) h = (h r (inl refl), each-among P rs (λ q k. h q (inr k)))
 
 -- no routine is among them twice
 abbrev pub Distinct : List ℕ → Type 0

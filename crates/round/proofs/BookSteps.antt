@@ -1,10 +1,10 @@
 -- The steps of distinct routines of an accepted book that are in a set are at most those of the whole book: the routines' parts follow each
 -- other without gaps, so the counts of the first routines are the count of the book's first steps.
 use Prim.Native.Nat.{ℕ, zero, suc, _+_, _<_, _≤_}
-use mathlib.Core.Path.{_≡_, refl, sym, _∙_, ap}
+use mathlib.Core.Path.{_≡_, refl, _∙_, ap}
 use mathlib.Core.Bool.{Bool}
 use mathlib.Core.List.{List, [], _∷_}
-use mathlib.Core.Logic.{_≢_, inl, inr}
+use mathlib.Core.Logic.{_≢_}
 use native.Mathlib.Nat.{add-zero}
 use native.Mathlib.Decide.{ℕ-discrete}
 use native.Mathlib.Omega.{arith}
@@ -16,9 +16,9 @@ use Rattle.book.specs.Layout.{mostSteps, routinesOf, stepsOf, firstStep, stepCo
 use Rattle.book.specs.Book.{stepsPart, routinePart, routineSteps}
 use Rattle.book.specs.Accepted.{Accepted}
 use Rattle.book.proofs.Parts.{same-taken, same-routine}
-use Rattle.round.specs.History.{countBelow, stepsIn, Among}
+use Rattle.round.specs.History.{countBelow, stepsIn}
 use Rattle.round.proofs.Along.{All, Distinct}
-use Rattle.round.proofs.Counting.{sumOver, count-all, count-same, count-sum}
+use Rattle.round.proofs.Counting.{sumOver, others-sum, count-all, count-same, count-sum}
 
 -- a sum over all below n
 unfoldable sumBelow : (ℕ → ℕ) → ℕ → ℕ
@@ -35,12 +35,6 @@ module _ (r : ℕ) (f : ℕ → ℕ) where
 
   without-other : (q : ℕ) → q ≢ r → without r f q ≡ f q
   without-other q n = rw (ne-eqb q r n)
-
-  over-without : (rs : List ℕ) → (Among r rs → ⊥) → sumOver (without r f) rs ≡ sumOver f rs
-  unfolding sumOver
-  over-without [] n = refl
-  over-without (q ∷ qs) n =
-      omega (arith, without-other q (λ e. n (inl (sym e))), over-without qs (λ h. n (inr h)))
 
   below-beyond : (n : ℕ) → n ≤ r → sumBelow (without r f) n ≡ sumBelow f n
   unfolding sumBelow
@@ -61,7 +55,12 @@ over-below : (f : ℕ → ℕ) (n : ℕ) (rs : List ℕ) → Distinct rs → All
 unfolding sumOver
 over-below f n [] d all = omega arith
 over-below f n (r ∷ rs) d all =
-    omega (arith, over-without r f rs (d .0), below-without r f n (all .0), over-below (without r f) n rs (d .1) (all .1))
+    omega (
+      arith,
+      others-sum f (without r f) r (without-other r f) rs (d .0),
+      below-without r f n (all .0),
+      over-below (without r f) n rs (d .1) (all .1),
+    )
 
 below-le : (f g : ℕ → ℕ) → ((r : ℕ) → f r ≤ g r) → (n : ℕ) → sumBelow f n ≤ sumBelow g n
 unfolding sumBelow

@@ -1,12 +1,11 @@
 -- A pass that begins with eoi set gives no signal and ends no routine. A pass begins so only behind one that did not move, and the
 -- theory of passes says what follows such a one; every state in which a pass begins is sound.
-use Prim.Native.Nat.{ℕ, _<_}
+use Prim.Native.Nat.{ℕ}
 use mathlib.Core.Path.{_≡_, sym}
 use mathlib.Core.Bool.{true, true≢false}
 use mathlib.Core.List.{List}
 use native.Mathlib.Omega.{arith}
 use borrow.Author.Tests.{not-true}
-use Rattle.book.specs.Layout.{routinesOf}
 use Rattle.book.specs.Accepted.{Accepted}
 use Rattle.game.specs.declared.Game.{Game}
 use Rattle.game.specs.Game.{Sized}
@@ -15,7 +14,6 @@ use Rattle.round.specs.State.{State}
 use Rattle.round.specs.Actions.{atStart}
 use Rattle.round.specs.Rounds.{listedIn}
 use Rattle.round.specs.Again.{Begins, Closes}
-use Rattle.round.proofs.Along.{All}
 use Rattle.round.proofs.Sound.{Sound}
 use Rattle.round.proofs.Actions.{at-start-listed}
 use Rattle.round.proofs.Starting.{at-start-sound}
@@ -25,16 +23,16 @@ use Rattle.round.proofs.Closing.{closing-pass}
 use Rattle.round.proofs.Lawful.{turn-laws}
 
 module _ (book : List ℕ) (a : Accepted book) (g : Game) (z : Sized g) (f : Fits book g) where
-  below : All (λ r. r < routinesOf book) (listedIn g)
-  below = at-start-listed book g (a .laid .counts) z f
-
   begins-sound : {s : State} → Begins book g s → Sound book s
   begins-sound Begins.first = at-start-sound book g a z f
-  begins-sound (Begins.next {s} b h) = again-sound _ (pass-stays (turn-laws book a) (listedIn g) below s (begins-sound b))
+  begins-sound (Begins.next {s} b h) =
+      let below = at-start-listed book g (a .laid .counts) z f in
+      again-sound _ (pass-stays (turn-laws book a) (listedIn g) below s (begins-sound b))
 
   pub closes : {s : State} → Begins book g s → s .eoi ≡ true → Closes book g s
   unfolding atStart
   closes Begins.first e = absurd (true≢false (sym e))
   closes (Begins.next {s} b h) e =
+      let below = at-start-listed book g (a .laid .counts) z f in
       let (none, done) = closing-pass (turn-laws book a) (listedIn g) below s (begins-sound b) (not-true _ e) in
       record { noSignal = omega arith; noEnd = omega arith; done = done }

@@ -7,7 +7,7 @@ use mathlib.Core.List.{List, [], _∷_}
 use mathlib.Core.Logic.{inl, inr}
 use native.Mathlib.Decide.{ℕ-discrete}
 use native.Mathlib.Omega.{arith}
-use Rattle.game.proofs.Below.{not-true-false, both-true}
+use Rattle.numbers.proofs.Tests.{not-true-false, both-true}
 use Rattle.round.specs.State.{State, Thing, signal, end, number, isThere, isEndThere}
 use Rattle.round.specs.History.{howMany, Among}
 use Rattle.round.specs.Rounds.{Played, allDone, again, turn, pass}

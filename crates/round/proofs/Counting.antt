@@ -4,13 +4,13 @@ use Prim.Native.Nat.{ℕ, zero, suc, _+_, _<_, _≤_}
 use mathlib.Core.Path.{_≡_, refl, sym}
 use mathlib.Core.Bool.{Bool, true, false, true≢false}
 use mathlib.Core.List.{List, [], _∷_}
-use mathlib.Core.Logic.{_↔_}
+use mathlib.Core.Logic.{_↔_, inl, inr, _≢_}
 use native.Mathlib.Decide.{ℕ-discrete}
 use native.Mathlib.Nat.{add-zero, add-suc}
 use native.Mathlib.Numerals.{add-one}
 use native.Mathlib.Omega.{arith}
 use Rattle.numbers.specs.Choice.{if_then_else_}
-use Rattle.round.specs.History.{countBelow}
+use Rattle.round.specs.History.{countBelow, Among}
 
 -- a sum over some numbers
 unfoldable pub sumOver : (ℕ → ℕ) → List ℕ → ℕ
@@ -21,6 +21,14 @@ pub over-le : (f g : ℕ → ℕ) → ((r : ℕ) → f r ≤ g r) → (rs : List
 unfolding sumOver
 over-le f g h [] = omega arith
 over-le f g h (r ∷ rs) = omega (arith, h r, over-le f g h rs)
+
+-- a sum in which r alone may count otherwise, where r is not one of the numbers
+pub others-sum :
+    (f g : ℕ → ℕ) (r : ℕ) → ((q : ℕ) → q ≢ r → g q ≡ f q) → (rs : List ℕ) → (Among r rs → ⊥) → sumOver g rs ≡ sumOver f rs
+unfolding sumOver
+others-sum f g r others [] out = refl
+others-sum f g r others (q ∷ qs) out =
+    omega (arith, others q (λ e. out (inl (sym e))), others-sum f g r others qs (λ h. out (inr h)))
 
 -- what one place counts
 abbrev pub one : Bool → ℕ

@@ -19,7 +19,7 @@ use Rattle.game.specs.declared.Routine.{Routine}
 use Rattle.game.specs.declared.Game.{Game}
 use Rattle.game.specs.Game.{rested, routineAt, Sized}
 use Rattle.game.specs.Fits.{Fits}
-use Rattle.game.proofs.Below.{not-true-false}
+use Rattle.numbers.proofs.Tests.{not-true-false}
 use Rattle.round.specs.declared.Ending.{Ending}
 use Rattle.round.specs.declared.Position.{Position}
 use Rattle.round.specs.declared.Effect.{Effect}

@@ -14,10 +14,11 @@ use lib.ListN.{length, getD, set, length-set, length-append}
 use lib.IntN.{ℤ}
 use lib.Seq.{getD-set-same, getD-set-other}
 use Rattle.numbers.specs.Choice.{if_then_else_}
+use Rattle.numbers.proofs.Tests.{by-test}
 use Rattle.game.specs.declared.Game.{Game}
 use Rattle.game.specs.Game.{blank, routineAt, withFlags, withRoutine}
 use Rattle.game.specs.Game as stage
-use Rattle.game.proofs.Below.{by-test}
+use Rattle.orders.proofs.Stores.{same-set}
 use Rattle.round.specs.declared.Effect.{Effect}
 use Rattle.round.specs.declared.Effect.the-variants.{Nothing, Mark, Put, Add, Give, GiveNumber, Start, Stop, Suspend, Resume}
 use Rattle.round.specs.State.{State, withGame, withNumbers, Thing, signal, end, number, gave, numbersWith, numbersOf}
@@ -26,7 +27,6 @@ use Rattle.round.specs.Actions.{positionOf}
 use Rattle.round.specs.Ticks.{mostNumbers, given, effectOn}
 use Rattle.round.specs.Demand.{Comes}
 use Rattle.round.proofs.Acts.{isGiving}
-use Rattle.round.proofs.Maps.{same-set}
 use Rattle.round.proofs.Seats.{SameSeat, seat-then, SameSeats}
 pub use Rattle.round.proofs.Seats.{same-seat}
 

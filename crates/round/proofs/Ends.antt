@@ -11,6 +11,7 @@ use borrow.Author.Tests.{eq-eqb, ne-eqb, eqb-true}
 use lib.Dec.{eqb}
 use lib.ListN.{length}
 use Rattle.numbers.specs.Choice.{if_then_else_}
+use Rattle.numbers.proofs.Tests.{by-test}
 use Rattle.kinds.specs.declared.Counts.{Counts}
 use Rattle.book.specs.Layout.{routinesOf}
 use Rattle.book.specs.Accepted.{Accepted}
@@ -19,7 +20,6 @@ use Rattle.game.specs.declared.Game.{Game}
 use Rattle.game.specs.Game.{continuing, routineAt, Sized}
 use Rattle.game.specs.Game as stage
 use Rattle.game.specs.Fits.{Fits}
-use Rattle.game.proofs.Below.{by-test}
 use Rattle.round.specs.declared.Ending.{Ending}
 use Rattle.round.specs.declared.Position.{Position}
 use Rattle.round.specs.State.{State, Happening, gave, ended, missing, past, marked, completed}
@@ -28,9 +28,9 @@ use Rattle.round.specs.Actions.{kept, atStart}
 use Rattle.round.specs.Rounds.{stageAfter, again, mostPasses, listedIn, ticksOf, turn, round, historyOf}
 use Rattle.round.specs.Demand.{endsRoutine}
 use Rattle.round.proofs.Acts.{Stops, ends, rests, misses, continues}
-use Rattle.round.proofs.Counting.{sumOver, one}
+use Rattle.round.proofs.Counting.{sumOver, others-sum, one}
 use Rattle.round.proofs.Histories.{many-append, none-told}
-use Rattle.round.proofs.Along.{All, among-all, Distinct, instant-along}
+use Rattle.round.proofs.Along.{among-all, each-among, Distinct, instant-along}
 use Rattle.round.proofs.Actions.{at-start-listed}
 use Rattle.round.proofs.Sound.{Sound}
 use Rattle.round.proofs.Starting.{listed-distinct, among-listed, listed-stage, at-start-sound}
@@ -42,14 +42,9 @@ use Rattle.round.proofs.Moving.{turn-seats}
 
 -- sums over some routines, of which r alone counts n more by g than by f
 module _ (f g : ℕ → ℕ) (r : ℕ) (others : (q : ℕ) → q ≢ r → g q ≡ f q) where
-  others-sum : (L : List ℕ) → (Among r L → ⊥) → sumOver g L ≡ sumOver f L
-  unfolding sumOver
-  others-sum [] out = refl
-  others-sum (q ∷ qs) out = omega (arith, others q (λ e. out (inl (sym e))), others-sum qs (λ h. out (inr h)))
-
   own-sum : (n : ℕ) → n + f r ≡ g r → (L : List ℕ) → Distinct L → Among r L → n + sumOver f L ≡ sumOver g L
   unfolding sumOver
-  own-sum n own (q ∷ qs) d (inl e) = rw (← e) (omega (arith, own, others-sum qs (rw (← e) at (d .0))))
+  own-sum n own (q ∷ qs) d (inl e) = rw (← e) (omega (arith, own, others-sum f g r others qs (rw (← e) at (d .0))))
   own-sum n own (q ∷ qs) d (inr h) = omega (arith, others q (λ e. d .0 (rw e h)), own-sum n own qs (d .1) h)
 
 none-sum : (f : ℕ → ℕ) (L : List ℕ) → ((r : ℕ) → Among r L → f r ≡ 0) → sumOver f L ≡ 0
@@ -64,11 +59,6 @@ kept-sum test (r ∷ rs) =
     let rest = kept-sum test rs in
     by-test (λ (l : List ℕ). length l ≡ one (test r) + sumOver (λ q. one (test q)) rs) (test r) (λ h. rw h (omega arith))
     (λ h. rw h (omega arith))
-
--- what holds of those among some routines holds of each of them
-each-among : (P : ℕ → Type 0) (L : List ℕ) → ((r : ℕ) → Among r L → P r) → All P L
-each-among P [] h = tt
-each-among P (r ∷ rs) h = (h r (inl refl), each-among P rs (λ q k. h q (inr k)))
 
 -- routine r is in stage 3
 abbrev isEnded : State → ℕ → Bool

@@ -10,17 +10,17 @@ use native.Mathlib.Omega.{arith}
 use native.Mathlib.Numerals.{add-one}
 use borrow.Author.Tests.{lt-ltb, ltb-true, ltb-false}
 use lib.Dec.{ltb}
-use lib.ListN.{length, getD, set, length-set, length-append}
+use lib.ListN.{length, getD, length-set, length-append}
 use lib.Seq.{take-suc-set, length-take-le, getD-take}
 use Rattle.numbers.specs.Choice.{if_then_else_}
+use Rattle.numbers.proofs.Tests.{by-test}
 use Rattle.book.specs.Layout.{routinesOf}
 use Rattle.book.specs.Accepted.{CountsInRange}
 use Rattle.game.specs.declared.Line.{Line}
 use Rattle.game.specs.declared.Game.{Game}
-use Rattle.game.specs.Lines.{mostEntries, itemAt, entriesOf, pushed, appended}
+use Rattle.game.specs.Lines.{mostEntries, itemAt, entriesOf, joined, pushed, appended}
 use Rattle.game.specs.Game.{Sized}
 use Rattle.game.specs.Fits.{Fits}
-use Rattle.game.proofs.Below.{by-test}
 use Rattle.game.proofs.Lists.{LineRight, used-all}
 use Rattle.game.proofs.Decides.{fit-lists}
 use Rattle.game.proofs.Room.{few}
@@ -49,17 +49,13 @@ kept-short test (r ∷ rs) =
     let rest = kept-short test rs in
     by-test (λ qs. length qs ≤ suc (length rs)) (test r) {x = r ∷ kept test rs} {y = kept test rs} (λ e. omega arith) (λ e. omega arith)
 
--- a list with r at its end
-abbrev pub longer : Line → ℕ → Line
-longer l r = record { items = set (l .items) (l .len) r; len = l .len + 1 }
-
 module _ (l : Line) (r : ℕ) (z : length (l .items) ≡ mostEntries) (h : l .len < mostEntries) where
-  pushed-longer : pushed l r ≡ longer l r
-  pushed-longer = rw (lt-ltb (l .len) mostEntries h)
+  pushed-joined : pushed l r ≡ joined l r
+  pushed-joined = rw (lt-ltb (l .len) mostEntries h)
 
   pub pushed-entries : entriesOf (pushed l r) ≡ entriesOf l ++ (r ∷ [])
   pushed-entries =
-      rw (pushed-longer, used-all (longer l r) (omega arith), used-all l (omega arith), add-one)
+      rw (pushed-joined, used-all (joined l r) (omega arith), used-all l (omega arith), add-one)
       (take-suc-set (l .items) (l .len) r (omega arith))
 
 pub appended-entries :
@@ -69,8 +65,8 @@ unfolding appended
 appended-entries l [] z h = sym (append-nil (entriesOf l))
 appended-entries l (r ∷ rs) z h =
     let room : l .len < mostEntries = omega arith in
-    let sized : length (pushed l r .items) ≡ mostEntries = rw (pushed-longer l r z room) (length-set (l .items) (l .len) r ∙ z) in
-    appended-entries (pushed l r) rs sized (rw (pushed-longer l r z room) (omega arith)) ∙
+    let sized : length (pushed l r .items) ≡ mostEntries = rw (pushed-joined l r z room) (length-set (l .items) (l .len) r ∙ z) in
+    appended-entries (pushed l r) rs sized (rw (pushed-joined l r z room) (omega arith)) ∙
     rw (pushed-entries l r z room) (append-assoc (entriesOf l) (r ∷ []) rs)
 
 -- entry i

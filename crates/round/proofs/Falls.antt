@@ -10,14 +10,14 @@ use native.Mathlib.Decide.{decLt, decLe}
 use native.Mathlib.Numerals.{add-one}
 use native.Mathlib.Omega.{arith}
 use Rattle.numbers.specs.Choice.{if_then_else_}
+use Rattle.numbers.proofs.Tests.{and-both}
 use Rattle.kinds.specs.declared.Counts.{Counts}
 use Rattle.kinds.specs.declared.Form.{Form}
 use Rattle.kinds.specs.declared.Form.the-variants.{Plain, Pausing, IfOpening, ElseMarker, WhileOpening, EndMarker}
 use Rattle.blocks.specs.Blocks.{View, beyond, stands, deepest}
 use Rattle.blocks.specs.Parse.{ParsedBlock, empty, more, ParsedStep, plain, pausing, ifOnly, ifElse, loop}
 use Rattle.blocks.specs.Parse.{blockPauses, stepPauses, EachWhileOf, WhilesPause}
-use Rattle.blocks.proofs.Views.{view-beyond, stands-within}
-use Rattle.game.proofs.Below.{and-both}
+use Rattle.blocks.proofs.Views.{view-beyond, standing-below}
 use Rattle.round.specs.Jumps.{sizeOf, pastPartner, fromEnd}
 use Rattle.round.proofs.Jumps.{past-partner, from-if, from-else, from-while}
 use Rattle.round.proofs.Leads.{isHalt, nextBy, formAt, Leads}
@@ -40,18 +40,14 @@ module _ (counts : Counts) (steps : List ℕ) where
   inside (halts l h) = l
   inside (goes l n on) = l
 
-  -- a place where a step stands
-  pub standing-below : (p : ℕ) {f : Form} → at p ≡ stands f → p < sizeOf steps
-  standing-below p h = stands-within at (sizeOf steps) (λ q. view-beyond counts steps (sizeOf steps) q) p h
-
   by-form : (p : ℕ) (f : Form) → at p ≡ stands f → isHalt (stands f) ≡ false → ((t : Bool) → Ends (nextBy steps (stands f) p t)) → Ends p
-  by-form p f h n on = goes {p = p} (omega (arith, standing-below p h)) (rw h n) (λ t. rw h (on t))
+  by-form p f h n on = goes {p = p} (omega (arith, standing-below counts steps (sizeOf steps) p h)) (rw h n) (λ t. rw h (on t))
 
   at-plain : {p : ℕ} → at p ≡ stands Plain → Ends (suc p) → Ends p
   at-plain {p} h w = by-form p Plain h refl (λ t. rw add-one w)
 
   at-pausing : {p : ℕ} → at p ≡ stands Pausing → Ends p
-  at-pausing {p} h = halts {p = p} (omega (arith, standing-below p h)) (rw h)
+  at-pausing {p} h = halts {p = p} (omega (arith, standing-below counts steps (sizeOf steps) p h)) (rw h)
 
   -- behind an opening, by its test
   by-either :

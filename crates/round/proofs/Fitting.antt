@@ -5,20 +5,20 @@ use mathlib.Core.Path.{_≡_, _∙_}
 use mathlib.Core.Bool.{Bool, true}
 use mathlib.Core.List.{List, [], _∷_, _++_}
 use native.Mathlib.Omega.{arith}
-use native.Mathlib.Decide.{ℕ-discrete, decLt}
+use native.Mathlib.Decide.{decLt}
 use lib.Dec.{ltb}
-use lib.ListN.{length, getD, set, length-set, List·getD-eq-default}
-use lib.Seq.{getD-set-same, getD-set-other}
+use lib.ListN.{length, getD, length-set, List·getD-eq-default}
 use lib.IntN.{ℤ, pos}
+use Rattle.numbers.proofs.Tests.{by-test}
 use Rattle.book.specs.Layout.{mostCounters, countersOf}
 use Rattle.book.specs.Book.{countsOf}
 use Rattle.book.specs.Accepted.{Accepted}
 use Rattle.game.specs.declared.Game.{Game}
 use Rattle.game.specs.Game.{withCounter, Sized}
 use Rattle.game.specs.Fits.{Fits}
-use Rattle.game.proofs.Below.{by-test}
 use Rattle.orders.specs.Orders.{orderCount, obeyed}
 use Rattle.orders.proofs.Obeyed.{obeyed-fits, obeyed-sized}
+use Rattle.orders.proofs.Stores.{set-each}
 use Rattle.round.specs.declared.Effect.{Effect}
 use Rattle.round.specs.declared.Effect.the-variants.{Nothing, Mark, Put, Add, Give, GiveNumber, Start, Stop, Suspend, Resume}
 use Rattle.round.specs.State.{State, withGame, withNumbers}
@@ -26,13 +26,6 @@ use Rattle.round.specs.Ticks.{mostNumbers, given, effectOn}
 use Rattle.round.proofs.Acts.{InRange, EachNumber, Ranged, Right, nothing, mark, put, add, give, giveNumber}
 use Rattle.round.proofs.Acts.{start, stop, suspend, resume}
 use Rattle.round.proofs.Sound.{Sound}
-
--- what holds of the entry put in place n, and of the others, holds of each
-pub set-each :
-    {A : Type 0} (l : List A) (n : ℕ) (y d : A) (P : ℕ → A → Type 0) → n < length l → P n y →
-    ((i : ℕ) → (i ≡ n → ⊥) → P i (getD l i d)) → (i : ℕ) → P i (getD (set l n y) i d)
-set-each l n y d P h here others i =
-    elim (ℕ-discrete i n) [ yes e ↦ rw (e, getD-set-same l n y d h) here | no m ↦ rw (getD-set-other l n i y d m) (others i m) ]
 
 -- numbers of which P holds, and one more
 each-and : (P : ℤ → Type 0) (l : List (ℕ × ℤ)) (e : ℕ) (v : ℤ) → EachNumber P l → P v → EachNumber P (l ++ ((e, v) ∷ []))

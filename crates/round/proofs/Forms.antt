@@ -1,6 +1,6 @@
 -- What the form that stands at a place of a routine says of the step there, and that a step's op is its kind's. A step that stands is one
 -- of the kinds, and a kind is told by its form; the table has the ops, row by row.
-use Prim.Native.Nat.{ℕ, _≤_}
+use Prim.Native.Nat.{ℕ}
 use mathlib.Core.Path.{_≡_, refl, ap, _∙_}
 use mathlib.Core.Bool.{Bool, true, false}
 use mathlib.Core.List.{List}
@@ -18,7 +18,6 @@ use Rattle.kinds.specs.declared.Form.{Form}
 use Rattle.kinds.specs.declared.Form.the-variants.{Plain, Pausing, IfOpening, ElseMarker, WhileOpening, EndMarker}
 use Rattle.kinds.specs.Steps.{table, opAt, fieldA, fieldB, fieldN, stepAt}
 use Rattle.kinds.specs.Forms.{formOf}
-use Rattle.kinds.proofs.Readable.{step-missing}
 use Rattle.blocks.specs.Blocks.{View, stands}
 use Rattle.blocks.proofs.Scan.{Rows, _and_, step-holds, row-kind, kind-there}
 use Rattle.round.specs.Jumps.{sizeOf}
@@ -120,9 +119,6 @@ module _ (counts : Counts) (steps : List ℕ) where
 
   pub end-there : (p : ℕ) → at p ≡ stands EndMarker → stepAt counts steps p ≡ step.Kind End
   end-there p h = let (k, e, g) = form-there p h in e ∙ ap step.Kind g
-
-  pub none-there : (p : ℕ) → sizeOf steps ≤ p → stepAt counts steps p ≡ step.Refused
-  none-there p h = step-missing counts steps p h
 
   -- a step's op is its kind's
   pub step-op : (p : ℕ) {k : Kind} → stepAt counts steps p ≡ step.Kind k → opAt steps p ≡ opOf k

@@ -10,11 +10,11 @@ use borrow.Author.Tests.{ltb-true, ltb-false, lt-ltb, le-ltb, ne-eqb}
 use lib.Dec.{eqb, ltb}
 use lib.ListN.{length, length-append}
 use lib.IntN.{ℤ}
+use Rattle.numbers.proofs.Tests.{by-test}
 use Rattle.kinds.specs.declared.Counts.{Counts}
 use Rattle.book.specs.Book.{countsOf, routineSteps}
 use Rattle.game.specs.declared.Game.{Game}
 use Rattle.game.specs.Lines.{entriesOf}
-use Rattle.game.proofs.Below.{by-test}
 use Rattle.round.specs.declared.Position.{Position}
 use Rattle.round.specs.declared.Effect.{Effect}
 use Rattle.round.specs.declared.Effect.the-variants.{GiveNumber}

@@ -71,23 +71,23 @@ module _ (test : Happening → Bool) where
 pub moves-append : (a b : List Happening) → moves (a ++ b) ≡ moves a + moves b
 moves-append a b = omega (arith, many-append givesSignal a b, many-append endsRoutine a b)
 
--- somewhere in two histories
-module _ (P : Happening → Type 0) where
-  pub somewhere-append : (a b : List Happening) → Somewhere P (a ++ b) → Somewhere P a ⊎ Somewhere P b
+-- somewhere in two lists, one after the other
+module _ {A : Type 0} (P : A → Type 0) where
+  pub somewhere-append : (a b : List A) → Somewhere P (a ++ b) → Somewhere P a ⊎ Somewhere P b
   somewhere-append [] b h = inr h
   somewhere-append (x ∷ a) b (inl h) = inl (inl h)
   somewhere-append (x ∷ a) b (inr h) = elim (somewhere-append a b h) [ inl k ↦ inl (inr k) | inr k ↦ inr k ]
 
-  pub in-first : (a b : List Happening) → Somewhere P a → Somewhere P (a ++ b)
+  pub in-first : (a b : List A) → Somewhere P a → Somewhere P (a ++ b)
   in-first (h ∷ a) b (inl w) = inl w
   in-first (h ∷ a) b (inr w) = inr (in-first a b w)
 
-  pub in-second : (a b : List Happening) → Somewhere P b → Somewhere P (a ++ b)
+  pub in-second : (a b : List A) → Somewhere P b → Somewhere P (a ++ b)
   in-second [] b w = w
   in-second (h ∷ a) b w = inr (in-second a b w)
 
   -- in the one or in the other, as a flag says
-  pub in-either : (a b : List Happening) (t : Bool) → (t ≡ true → Somewhere P a) → (t ≡ false → Somewhere P b) → Somewhere P (a ++ b)
+  pub in-either : (a b : List A) (t : Bool) → (t ≡ true → Somewhere P a) → (t ≡ false → Somewhere P b) → Somewhere P (a ++ b)
   in-either a b true f s = in-first a b (f refl)
   in-either a b false f s = in-second a b (s refl)
 

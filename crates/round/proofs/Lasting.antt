@@ -6,13 +6,13 @@ use mathlib.Core.List.{List}
 use native.Mathlib.Decide.{decLt}
 use native.Mathlib.Omega.{arith}
 use Rattle.numbers.specs.Choice.{if_then_else_}
+use Rattle.numbers.proofs.Tests.{by-test}
 use Rattle.kinds.specs.declared.Counts.{Counts}
 use Rattle.blocks.specs.Blocks.{deepest}
 use Rattle.blocks.specs.Parse.{ParsedBlock, WhilesPause}
 use Rattle.book.specs.Layout.{routinesOf, stepCount}
 use Rattle.book.specs.Book.{countsOf, routineSteps}
 use Rattle.book.specs.Accepted.{Accepted}
-use Rattle.game.proofs.Below.{by-test}
 use Rattle.round.specs.declared.Position.{Position}
 use Rattle.round.specs.declared.Act.{Act}
 use Rattle.round.specs.declared.Act.the-variants.{Goes, Halts}

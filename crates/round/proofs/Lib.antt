@@ -21,7 +21,6 @@ pub mod Along
 pub mod Stepping
 pub mod Shaping
 -- the eight actions, and the state behind them
-pub mod Maps
 pub mod Entries
 pub mod Actions
 pub mod Listing

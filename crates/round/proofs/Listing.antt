@@ -11,14 +11,15 @@ use native.Mathlib.Decide.{ℕ-discrete}
 use borrow.Author.Tests.{lt-ltb}
 use lib.ListN.{length, getD, length-set, getD-replicate}
 use lib.Seq.{getD-set-other}
+use Rattle.numbers.proofs.Tests.{by-test}
 use Rattle.game.specs.declared.Line.{Line}
-use Rattle.game.specs.Lines.{mostEntries, empty, itemAt, entriesOf, appended}
+use Rattle.game.specs.Lines.{mostEntries, empty, itemAt, entriesOf, joined, appended}
 use Rattle.game.specs.Fits.{In}
-use Rattle.game.proofs.Below.{by-test}
 use Rattle.game.proofs.Lists.{LineRight}
 use Rattle.round.specs.Actions.{kept}
+use Rattle.round.proofs.Histories.{somewhere-append}
 use Rattle.round.proofs.Along.{All, among-all, Distinct}
-use Rattle.round.proofs.Entries.{longer, appended-entries, item-at, entries-length}
+use Rattle.round.proofs.Entries.{appended-entries, item-at, entries-length}
 use Rattle.round.specs.History.{Among}
 
 pub among-or : (r : ℕ) (rs : List ℕ) → Among r rs ⊎ (Among r rs → ⊥)
@@ -40,26 +41,11 @@ among-place r [] h = absurd h
 among-place r (q ∷ qs) (inl e) = (0, omega arith, sym e)
 among-place r (q ∷ qs) (inr h) = let (i, l, e) = among-place r qs h in (suc i, omega arith, e)
 
--- two lists, one after the other
-pub among-first : (r : ℕ) (a b : List ℕ) → Among r a → Among r (a ++ b)
-among-first r [] b h = absurd h
-among-first r (q ∷ qs) b (inl e) = inl e
-among-first r (q ∷ qs) b (inr h) = inr (among-first r qs b h)
-
-pub among-second : (r : ℕ) (a b : List ℕ) → Among r b → Among r (a ++ b)
-among-second r [] b h = h
-among-second r (q ∷ qs) b h = inr (among-second r qs b h)
-
-among-either : (r : ℕ) (a b : List ℕ) → Among r (a ++ b) → Among r a ⊎ Among r b
-among-either r [] b h = inr h
-among-either r (q ∷ qs) b (inl e) = inl (inl e)
-among-either r (q ∷ qs) b (inr h) = ⊎-elim (λ k. inl (inr k)) inr (among-either r qs b h)
-
 pub distinct-joined :
     (a b : List ℕ) → Distinct a → Distinct b → ((r : ℕ) → Among r a → Among r b → ⊥) → Distinct (a ++ b)
 distinct-joined [] b d e apart = e
 distinct-joined (r ∷ rs) b d e apart = (
-  λ h. ⊎-elim (d .0) (apart r (inl refl)) (among-either r rs b h),
+  λ h. ⊎-elim (d .0) (apart r (inl refl)) (somewhere-append (λ q. r ≡ q) rs b h),
   distinct-joined rs b (d .1) e (λ q h. apart q (inr h)),
 )
 
@@ -130,7 +116,7 @@ appended-filled : (l : Line) (n : ℕ) (rs : List ℕ) → n + length rs ≤ mos
 unfolding appended
 appended-filled l n [] h a = rw add-zero a
 appended-filled l n (r ∷ rs) h a =
-    let more : Filled (longer l r) (n + 1) =
+    let more : Filled (joined l r) (n + 1) =
     record {
       len = omega (arith, a .len);
       sized = length-set (l .items) (l .len) r ∙ a .sized;
@@ -139,7 +125,7 @@ appended-filled l n (r ∷ rs) h a =
     }
     in
     let e : n + length (r ∷ rs) ≡ (n + 1) + length rs = omega arith in
-    rw (e, lt-ltb (l .len) mostEntries (omega (arith, a .len))) (appended-filled (longer l r) (n + 1) rs (omega arith) more)
+    rw (e, lt-ltb (l .len) mostEntries (omega (arith, a .len))) (appended-filled (joined l r) (n + 1) rs (omega arith) more)
 
 -- different routines of the book, appended to none
 module _ (rs : List ℕ) (short : length rs ≤ mostEntries) where

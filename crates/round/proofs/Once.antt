@@ -1,13 +1,12 @@
 -- No step is completed twice in one round by one routine: a listed routine pays for each step of a set that it completes with one of those
 -- that it has left, and at the round's start it has no more left than it has. Signals, numbers and marks are told by steps of their own.
-use Prim.Native.Nat.{ℕ, _≤_, _<_}
+use Prim.Native.Nat.{ℕ, _≤_}
 use mathlib.Core.Path.{refl}
 use mathlib.Core.Bool.{Bool}
 use mathlib.Core.List.{List}
 use native.Mathlib.Omega.{arith}
 use lib.Dec.{eqb}
 use lib.ListN.{length}
-use Rattle.book.specs.Layout.{routinesOf}
 use Rattle.book.specs.Accepted.{Accepted}
 use Rattle.game.specs.declared.Game.{Game}
 use Rattle.game.specs.Game.{Sized}
@@ -18,7 +17,7 @@ use Rattle.round.specs.Rounds.{mostPasses, listedIn, round, historyOf}
 use Rattle.round.specs.Answers.{opMark, marksIn}
 use Rattle.round.specs.Demand.{isSignalStep, givesSignal}
 use Rattle.round.specs.Completed.{completes, theStep, isMarkStep, isAddition, CompletedOnce}
-use Rattle.round.proofs.Along.{All, Distinct}
+use Rattle.round.proofs.Along.{Distinct}
 use Rattle.round.proofs.Sound.{Sound}
 use Rattle.round.proofs.Actions.{at-start-listed}
 use Rattle.round.proofs.Starting.{at-start-sound, listed-distinct}
@@ -31,15 +30,13 @@ use Rattle.round.proofs.OneStep.{one-of-distinct}
 use Rattle.round.proofs.Enough.{total-left}
 
 module _ (book : List ℕ) (a : Accepted book) (g : Game) (z : Sized g) (f : Fits book g) where
-  below : All (λ r. r < routinesOf book) (listedIn g)
-  below = at-start-listed book g (a .laid .counts) z f
-
   distinct : Distinct (listedIn g)
   distinct = listed-distinct book g a z f
 
   each-once : (set : ℕ → ℕ → Bool) → howMany (completes set) (historyOf book g) ≤ stepsIn book set (listedIn g)
   unfolding round
   each-once set =
+      let below = at-start-listed book g (a .laid .counts) z f in
       let paid =
       instant-pays book (Sound book) (completes set) (worth (leftOf book a set)) (turn-sound book a) again-sound
       (λ r s l ok. turn-pays book a set r s l) (turn-spares book a (leftOf book a set)) (λ q s. refl) mostPasses (listedIn g) below
@@ -54,6 +51,7 @@ module _ (book : List ℕ) (a : Accepted book) (g : Game) (z : Sized g) (f : Fit
 
   pub completed-once : CompletedOnce book g
   completed-once =
+      let below = at-start-listed book g (a .laid .counts) z f in
       record {
         once = each-once;
         neverTwice = λ r p. omega (arith, each-once (theStep r p), one-of-distinct r p book (listedIn g) distinct);

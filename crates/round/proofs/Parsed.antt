@@ -1,16 +1,16 @@
 -- The parse of a routine of an accepted book, with the pauses of its whiles: the book's acceptance gives both over the routine's part of
 -- the book, and its own steps have the same places.
 use Prim.Native.Nat.{ℕ, _/_, _<_}
-use mathlib.Core.Path.{_≡_, sym, _∙_, subst}
+use mathlib.Core.Path.{_≡_, refl, subst}
 use mathlib.Core.List.{List}
 use lib.ListN.{length}
 use Rattle.kinds.specs.Steps.{stepBytes}
-use Rattle.blocks.specs.Blocks.{View, viewAt, deepest}
+use Rattle.blocks.specs.Blocks.{deepest}
 use Rattle.blocks.specs.Parse.{ParsedBlock, WhilesPause}
 use Rattle.book.specs.Layout.{routinesOf, stepCount}
-use Rattle.book.specs.Book.{countsOf, routineSteps, viewOf}
+use Rattle.book.specs.Book.{countsOf, routineSteps}
 use Rattle.book.specs.Accepted.{Accepted}
-use Rattle.book.proofs.Laws.{shown-routine, shown-steps, shown-places}
+use Rattle.book.proofs.Laws.{PausingParse, own-places, shown-routine, shown-steps}
 use Rattle.round.specs.Jumps.{sizeOf}
 use Rattle.round.proofs.Leads.{formAt}
 
@@ -21,20 +21,8 @@ module _ (book : List ℕ) (a : Accepted book) (r : ℕ) (h : r < routinesOf boo
   pub size-same : sizeOf (routineSteps book r) ≡ stepCount book r
   size-same = subst (λ (part : List ℕ). length part / stepBytes ≡ stepCount book r) (shown-routine book a r h) (shown-steps book a r h)
 
-  pub places-same : viewOf book r ≡ formAt (countsOf book) (routineSteps book r)
-  places-same =
-      sym (shown-places book a r h)
-      ∙ (λ i. viewAt (countsOf book) (shown-routine book a r h i) (sym size-same i))
-
-  -- a parse whose whiles pause
-  abbrev PausingParse : (ℕ → View) → ℕ → Type 0
-  PausingParse at e = (b : ParsedBlock at deepest 0 e) × WhilesPause at b
-
   parsed : PausingParse (formAt (countsOf book) steps) (sizeOf steps)
-  parsed =
-      subst (λ (at : ℕ → View). PausingParse at (sizeOf steps)) places-same (
-      subst (λ (e : ℕ). PausingParse (viewOf book r) e) (sym size-same) (a .nesting r h, a .pausing r h)
-      )
+  parsed = own-places book r refl size-same PausingParse (a .nesting r h, a .pausing r h)
 
   pub parse-of : ParsedBlock (formAt (countsOf book) (routineSteps book r)) deepest 0 (sizeOf (routineSteps book r))
   parse-of = parsed .0

@@ -6,7 +6,7 @@ use mathlib.Core.Bool.{true, false, not}
 use mathlib.Core.List.{List, [], append-nil}
 use mathlib.Core.Logic.{_⊎_, inl, inr}
 use native.Mathlib.Omega.{arith}
-use Rattle.game.proofs.Below.{by-test}
+use Rattle.numbers.proofs.Tests.{by-test}
 use Rattle.round.specs.History.{Among}
 use Rattle.round.specs.State.{State, Thing, Happening, isThere}
 use Rattle.round.specs.Rounds.{followedBy, allDone, again, pass, Round, instant}

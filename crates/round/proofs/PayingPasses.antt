@@ -2,7 +2,7 @@
 -- tell of no more than the worth of all: for any test of what is told and any worth. By the claim that the things told and the worth left
 -- to all the listed routines are together at most the worth that they had.
 use Prim.Native.Nat.{ℕ, _+_, _<_, _≤_}
-use mathlib.Core.Path.{_≡_, refl}
+use mathlib.Core.Path.{_≡_}
 use mathlib.Core.Bool.{Bool}
 use mathlib.Core.List.{List, [], _∷_, _++_}
 use mathlib.Core.Logic.{_≢_, inl, inr}
@@ -14,7 +14,7 @@ use Rattle.round.specs.History.{howMany, Among}
 use Rattle.round.specs.Rounds.{again, turn, pass, instant}
 use Rattle.round.proofs.Counting.{sumOver, over-le}
 use Rattle.round.proofs.Histories.{many-append}
-use Rattle.round.proofs.Along.{All, pass-along, instant-along}
+use Rattle.round.proofs.Along.{All, among-all, each-among, pass-along, instant-along}
 
 -- what some routines are worth together
 abbrev pub total : (ℕ → State → ℕ) → List ℕ → State → ℕ
@@ -57,10 +57,8 @@ module _
       abbrev Listed : ℕ → Type 0
       Listed r = (r < routinesOf book) × Among r L
 
-      -- each of some routines of L is listed
-      listed : (rs : List ℕ) → ((r : ℕ) → Among r rs → Among r L) → All (λ r. r < routinesOf book) rs → All Listed rs
-      listed [] within all = tt
-      listed (r ∷ rs) within all = ((all .0, within r (inl refl)), listed rs (λ q h. within q (inr h)) (all .1))
+      all-listed : All (λ r. r < routinesOf book) L → All Listed L
+      all-listed all = each-among Listed L (λ r h. (among-all (λ q. q < routinesOf book) r L all h, h))
 
       claim-none : (s : State) → Claim s [] s
       unfolding howMany
@@ -83,12 +81,12 @@ module _
         (L : List ℕ) → All (λ r. r < routinesOf book) L → (s : State) → Ok s →
         howMany test (pass book L s .told) + total worth L (pass book L s .state) ≤ total worth L s
     pass-pays L all s ok =
-        let each = listed L L (λ r h. h) all in
+        let each = all-listed L all in
         pass-along (Claim L) (claim-none L) (claim-both L) book (Listed L) (claim-turn L) L each s ok .1
 
     pub instant-pays :
         (n : ℕ) (L : List ℕ) → All (λ r. r < routinesOf book) L → (s : State) → Ok s →
         howMany test (instant book n L s .played .told) + total worth L (instant book n L s .played .state) ≤ total worth L s
     instant-pays n L all s ok =
-        let each = listed L L (λ r h. h) all in
+        let each = all-listed L all in
         instant-along (Claim L) (claim-none L) (claim-both L) book (Listed L) (claim-turn L) (claim-again L) n L each s ok .1

@@ -1,11 +1,11 @@
 -- The 21 kinds sorted: at any position of any bytes, a step goes on along an edge, with a right effect and what it tells of it, or it halts
 -- the turn at a position where fitting lets a routine stand. By the kind of the step, its form, its op and its fields.
-use Prim.Native.Nat.{ℕ, zero, suc, _+_, _-_, _<_}
-use mathlib.Core.Path.{_≡_, refl, sym, ap, _∙_}
+use Prim.Native.Nat.{ℕ, zero, suc, _+_, _-_}
+use mathlib.Core.Path.{_≡_, refl, ap, _∙_}
 use mathlib.Core.Bool.{Bool, true, false}
 use mathlib.Core.List.{List, [], _∷_}
 use native.Mathlib.Omega.{arith}
-use native.Mathlib.Decide.{decLt, ℕ-discrete}
+use native.Mathlib.Decide.{ℕ-discrete}
 use borrow.Author.Tests.{eq-eqb, ne-eqb, eqb-true}
 use lib.Dec.{eqb}
 use lib.ListN.{getD}
@@ -15,6 +15,7 @@ use Rattle.numbers.specs.Choice.{if_then_else_}
 use Rattle.numbers.specs.Numbers.{relationOf}
 use Rattle.numbers.specs.Sums.{AddsUp, within, above, below}
 use Rattle.numbers.proofs.Sums.{adds-up}
+use Rattle.numbers.proofs.Tests.{by-test}
 use Rattle.kinds.specs.declared.Kind.{Kind}
 use Rattle.kinds.specs.declared.Kind.the-variants as kind
 use Rattle.kinds.specs.declared.Step.{Step}
@@ -24,11 +25,10 @@ use Rattle.kinds.specs.declared.Form.the-variants.{Plain, IfOpening, ElseMarker
 use Rattle.kinds.specs.Steps.{opAt, stepAt}
 use Rattle.kinds.specs.Forms.{formOf}
 use Rattle.kinds.specs.Timed.{restFor, waitFor, joinFor}
-use Rattle.kinds.proofs.Readable.{kind-not-refused, step-missing}
+use Rattle.kinds.proofs.Readable.{step-below}
 use Rattle.blocks.specs.Blocks.{View, stands, seen}
 use Rattle.blocks.proofs.Views.{view-seen}
 use Rattle.game.specs.Game.{counterAt}
-use Rattle.game.proofs.Below.{by-test}
 use Rattle.round.specs.declared.Position.{Position}
 use Rattle.round.specs.declared.Effect.the-variants.{Put}
 use Rattle.round.specs.State.{State, signal, end, number, numbersWith, numberAt}
@@ -70,15 +70,8 @@ module _ (counts : Counts) (r : ℕ) (steps : List ℕ) (x : Position) (s : Stat
   abbrev There : Kind → Type 0
   There k = stepAt counts steps (x .place) ≡ step.Kind k
 
-  place-below : {k : Kind} → There k → x .place < sizeOf steps
-  place-below e =
-      elim (decLt (x .place) (sizeOf steps)) [
-        | yes h ↦ h
-        | no h ↦ absurd (kind-not-refused (sym e ∙ step-missing counts steps (x .place) (omega arith)))
-      ]
-
   form-there : {k : Kind} → There k → formAt counts steps (x .place) ≡ stands (formOf k)
-  form-there e = view-seen counts steps (sizeOf steps) (x .place) (place-below e) ∙ ap seen e
+  form-there e = view-seen counts steps (sizeOf steps) (x .place) (step-below counts steps (x .place) e) ∙ ap seen e
 
   -- the op of a step is its kind's, so the kind says whether it is a signal step
   tells : {k : Kind} → There k → isTelling (opAt steps (x .place)) ≡ isTelling (opOf k)
@@ -117,7 +110,7 @@ module _ (counts : Counts) (r : ℕ) (steps : List ℕ) (x : Position) (s : Stat
   kind-sorted (kind.Signal a) e f = (behind (form-there e), give f, gives (signals e))
   kind-sorted (kind.SignalNumber a c) e f =
       (behind (form-there e), giveNumber (f .0) (λ ranged. ranged .counters c), givesNumber (signals e))
-  kind-sorted kind.Rest e f = (λ h. fresh-stands counts steps (x .place + 1) (omega (arith, place-below e)), rests)
+  kind-sorted kind.Rest e f = (λ h. fresh-stands counts steps (x .place + 1) (omega (arith, step-below counts steps (x .place) e)), rests)
   kind-sorted (kind.RestFor n) e f =
       by-test (λ a. Sorted counts r steps x s a []) (eqb (countAt x n) 0)
       (λ h. (rest-over n e (eqb-true (countAt x n) 0 h), nothing, silent refl (tells e)))
@@ -133,7 +126,7 @@ module _ (counts : Counts) (r : ℕ) (steps : List ℕ) (x : Position) (s : Stat
   kind-sorted (kind.Read a c k) e f =
       tries-sorted counts r steps x s (behind (form-there e)) (tells e) (number a k) (Put c (numberAt s a k)) (fresh (x .place + 1))
       (put (f .1) (λ ranged. number-in-range a (s .numbers) (k - 1) (ranged .numbers))) refl
-      (λ h. (rw e read, λ stood. fresh-stands counts steps (x .place + 1) (omega (arith, place-below e))))
+      (λ h. (rw e read, λ stood. fresh-stands counts steps (x .place + 1) (omega (arith, step-below counts steps (x .place) e))))
   kind-sorted (kind.Start t) e f = (behind (form-there e), start f, silent refl (tells e))
   kind-sorted (kind.Stop t) e f = (behind (form-there e), stop f, silent refl (tells e))
   kind-sorted (kind.Suspend t) e f = (behind (form-there e), suspend f, silent refl (tells e))

@@ -17,23 +17,21 @@ use Rattle.game.specs.Lines.{mostEntries, entriesOf}
 use Rattle.game.specs.Game.{continuing, rested, ended, stopped, blank, routineAt, Sized}
 use Rattle.game.specs.Fits.{In, Fits}
 use Rattle.game.proofs.Lists.{LineRight}
+use Rattle.game.proofs.Routines.{UnderWay}
 use Rattle.game.proofs.Decides.{fit-lists}
 use Rattle.round.specs.declared.Position.{Position}
 use Rattle.round.specs.Actions.{kept, each, inStage1, inStage4, getsStopped, staysListed, withoutOrders, atStart}
+use Rattle.round.proofs.Histories.{in-first, in-second}
 use Rattle.round.proofs.Along.{All, among-all, Distinct}
 use Rattle.round.proofs.Sound.{Sound}
 use Rattle.round.proofs.Entries.{all-kept, kept-short, entries-below, apart, joined-entries, joined-below, joined-short}
 use Rattle.round.proofs.Actions.{each-length, each-other, each-given, started, stopping, order, startsOf, joinedOf}
 use Rattle.round.proofs.Actions.{at-start-routines, at-start-positions, at-start-entries}
-use Rattle.round.proofs.Listing.{among-or, among-first, among-second, distinct-joined, among-kept, distinct-kept}
+use Rattle.round.proofs.Listing.{among-or, distinct-joined, among-kept, distinct-kept}
 use Rattle.round.proofs.Listing.{in-among, among-in, entries-distinct, appended-sized, appended-right}
 use Rattle.round.specs.History.{Among}
 
--- stage 1 or 2
-abbrev UnderWay : ℕ → Type 0
-UnderWay k = (k ≡ continuing) ⊎ (k ≡ rested)
-
--- any other stage
+-- a stage that is not under way
 abbrev Idle : ℕ → Type 0
 Idle k = (k ≤ stopped) × (UnderWay k → ⊥)
 
@@ -98,11 +96,11 @@ module _ (book : List ℕ) (g : Game) (range : CountsInRange book) (z : Sized g)
   under-way-joined r l way =
       let listed = entriesOf (g .listed) in
       rw (joined-entries book g range z f)
-      (⊎-elim (λ h. among-second r listed (startsOf g) h)
+      (⊎-elim (λ h. in-second (λ q. r ≡ q) listed (startsOf g) h)
       (λ n.
       let same = each-other inStage1 (startsOf g) (g .routines) r n in
       let before : UnderWay (routineAt g r .stage) = subst (λ (x : Routine). UnderWay (x .stage)) same way in
-      among-first r listed (startsOf g) (in-among (g .listed) (fit-lists book g f .0) (z .listed) r (f .listedStages r l before)))
+      in-first (λ q. r ≡ q) listed (startsOf g) (in-among (g .listed) (fit-lists book g f .0) (z .listed) r (f .listedStages r l before)))
       (among-or r (startsOf g)))
 
   first-range : (r : ℕ) → r < routinesOf book → getD (first g) r blank .stage ≤ stopped

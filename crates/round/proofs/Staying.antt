@@ -7,6 +7,7 @@ use mathlib.Core.List.{List}
 use mathlib.Core.Logic.{_⊎_, inl, inr}
 use native.Mathlib.Omega.{arith}
 use lib.ListN.{length, length-set}
+use Rattle.blocks.proofs.Views.{standing-below}
 use Rattle.book.specs.Layout.{mostRoutines, routinesOf, stepCount}
 use Rattle.book.specs.Book.{countsOf, routineSteps}
 use Rattle.book.specs.Accepted.{Accepted}
@@ -14,6 +15,7 @@ use Rattle.kinds.specs.Steps.{stepAt}
 use Rattle.kinds.specs.Timed.{Timed}
 use Rattle.game.specs.Game.{notStarted, continuing, rested, ended, stopped, blank, routineAt, withRoutine}
 use Rattle.game.specs.Fits.{In}
+use Rattle.orders.proofs.Stores.{set-each}
 use Rattle.round.specs.declared.Ending.{Ending}
 use Rattle.round.specs.declared.Ending.the-variants.{Ended, Rested, Missed, Continued}
 use Rattle.round.specs.declared.Position.{Position}
@@ -25,12 +27,12 @@ use Rattle.round.proofs.Leads.{Leaves, leads, restOver}
 use Rattle.round.proofs.Acts.{Stands}
 use Rattle.round.proofs.Tries.{fresh-stands}
 use Rattle.round.proofs.Stepping.{ticks-by}
-use Rattle.round.proofs.Falls.{standing-below, leads-inside}
+use Rattle.round.proofs.Falls.{leads-inside}
 use Rattle.round.proofs.Parsed.{size-same, parse-of, parse-pauses}
 use Rattle.round.proofs.Sound.{Sound}
 use Rattle.round.proofs.Coming.{turn-untouched}
 use Rattle.round.proofs.AfterTurn.{going-parts, end-keeps, turn-by}
-use Rattle.round.proofs.Fitting.{set-each, game-sound, effect-sound}
+use Rattle.round.proofs.Fitting.{game-sound, effect-sound}
 
 -- the stages in which a turn leaves its routine
 stage-after : (h : Ending) → (continuing ≤ stageAfter h) × (stageAfter h ≤ ended)
@@ -137,7 +139,7 @@ module _ (book : List ℕ) (a : Accepted book) where
     -- a step that goes on leads to a place of the routine
     leaves-inside : (x : Position) (q : ℕ) → Leaves (countsOf book) steps x q → q ≤ sizeOf steps
     leaves-inside x q (leads l) = leads-inside (countsOf book) steps (parse-of book a r below) (parse-pauses book a r below) (x .place) q l
-    leaves-inside x q (restOver begun form) = omega (arith, standing-below (countsOf book) steps (x .place) form)
+    leaves-inside x q (restOver begun form) = omega (arith, standing-below (countsOf book) steps (sizeOf steps) (x .place) form)
 
     -- the steps of a turn keep a sound state sound, and leave the routine where it may stand
     ticks-stay :

@@ -9,11 +9,11 @@ use native.Mathlib.Omega.{arith}
 use native.Mathlib.Decide.{decLt}
 use borrow.Author.Tests.{eqb-false}
 use lib.Dec.{eqb}
-use Rattle.kinds.specs.declared.Step.{Step}
+use Rattle.numbers.proofs.Tests.{by-test}
 use Rattle.kinds.specs.declared.Counts.{Counts}
 use Rattle.kinds.specs.Steps.{opAt, stepAt}
-use Rattle.kinds.specs.Timed.{Timed, restFor, waitFor, joinFor, timedCount}
-use Rattle.game.proofs.Below.{by-test}
+use Rattle.kinds.specs.Timed.{Timed}
+use Rattle.kinds.proofs.Timed.{timed-count}
 use Rattle.round.specs.declared.Position.{Position}
 use Rattle.round.specs.declared.Effect.{Effect}
 use Rattle.round.specs.declared.Effect.the-variants.{Nothing}
@@ -23,12 +23,6 @@ use Rattle.round.specs.Ticks.{fresh, begunAt, countAt, tries, lacks, wai
 use Rattle.round.proofs.Leads.{Leaves}
 use Rattle.round.proofs.Acts.{Right, nothing, isGiving, Asks, Stands, silent}
 use Rattle.round.proofs.Acts.{finds, misses, continues, Sorted, SortedTick, isTelling}
-
--- a timed step has one n
-timed-count : {st : Step} {n : ℕ} → Timed st n → timedCount st ≡ n
-timed-count restFor = refl
-timed-count waitFor = refl
-timed-count joinFor = refl
 
 pub some-left : (k : ℕ) → eqb k 0 ≡ false → 0 < k
 some-left k h = elim (decLt 0 k) [ yes l ↦ l | no l ↦ absurd (eqb-false k 0 h (omega arith)) ]

@@ -11,12 +11,13 @@ use native.Mathlib.Decide.{ℕ-discrete}
 use lib.Dec.{eqb}
 use lib.ListN.{length}
 use lib.Seq.{getD-set-same, getD-set-other}
+use Rattle.numbers.proofs.Tests.{not-true-false}
 use Rattle.kinds.specs.declared.Counts.{Counts}
 use Rattle.book.specs.Layout.{mostSignals}
 use Rattle.game.specs.declared.Game.{Game}
 use Rattle.game.specs.Game.{continuing, blank, routineAt, withRoutine}
 use Rattle.game.specs.Game as stage
-use Rattle.game.proofs.Below.{not-true-false}
+use Rattle.orders.proofs.Stores.{same-set}
 use Rattle.round.specs.declared.Ending.{Ending}
 use Rattle.round.specs.declared.Ending.the-variants.{Ended}
 use Rattle.round.specs.declared.Position.{Position}
@@ -29,7 +30,6 @@ use Rattle.round.proofs.Acts.{Stops}
 use Rattle.round.proofs.Coming.{Carries}
 use Rattle.round.proofs.Effects.{Untouched}
 use Rattle.round.proofs.Histories.{many-append, none-of-both, none-told, somewhere-append, in-second, end-ends}
-use Rattle.round.proofs.Maps.{same-set}
 use Rattle.round.proofs.Seats.{SameSeat, same-seat}
 use Rattle.round.proofs.AfterTurn.{placed-there}
 use Rattle.round.proofs.Shaping.{Shape}

@@ -7,7 +7,7 @@ use mathlib.Core.List.{List, [], _∷_, _++_}
 use mathlib.Core.Logic.{_⊎_, inl, inr, _≢_}
 use native.Mathlib.Decide.{ℕ-discrete}
 use native.Mathlib.Omega.{arith}
-use Rattle.game.proofs.Below.{and-both, not-true-false}
+use Rattle.numbers.proofs.Tests.{and-both, not-true-false, by-test}
 use Rattle.round.specs.State.{State, Thing, Happening, isThere}
 use Rattle.round.specs.History.{howMany, Among}
 use Rattle.round.specs.Rounds.{Turn, took, Played, isDone, allDone, turn, pass}
@@ -18,8 +18,7 @@ use Rattle.round.proofs.TurnLaws.{isGoing, moves, Waits, TurnLaws}
 
 -- a claim by the two values of a flag
 pub by-flag : {P : Type 0} (b : Bool) → (b ≡ true → P) → (b ≡ false → P) → P
-by-flag true t f = t refl
-by-flag false t f = f refl
+by-flag {P} b = by-test (λ (u : Unit {0}). P) b {x = tt} {y = tt}
 
 pub clash : {P : Type 0} {b : Bool} → b ≡ true → b ≡ false → P
 clash t f = absurd (true≢false (sym t ∙ f))

@@ -23,12 +23,11 @@ unfoldable pub howMany : (Happening → Bool) → List Happening → ℕ
 howMany test [] = 0
 howMany test (h ∷ told) = let rest = howMany test told in if test h then rest + 1 else rest
 
--- P holds of something that happened
-abbrev pub Somewhere : (Happening → Type 0) → List Happening → Type 0
+-- P holds of something in a list, as of something that happened
+abbrev pub Somewhere : {A : Type 0} → (A → Type 0) → List A → Type 0
 Somewhere P [] = ⊥
-Somewhere P (h ∷ told) = P h ⊎ Somewhere P told
+Somewhere P (x ∷ xs) = P x ⊎ Somewhere P xs
 
 -- r is one of some routines
 abbrev pub Among : ℕ → List ℕ → Type 0
-Among r [] = ⊥
-Among r (q ∷ qs) = (r ≡ q) ⊎ Among r qs
+Among r rs = Somewhere (λ q. r ≡ q) rs

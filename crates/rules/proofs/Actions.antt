@@ -7,11 +7,11 @@ use mathlib.Core.List.{List, [], _∷_, map, map-map, zipWith}
 use lib.ListN.{getD, set, List·getD-map}
 use lib.Seq.{getD-set-other}
 use Rattle.numbers.specs.Choice.{if_then_else_}
+use Rattle.numbers.proofs.Tests.{by-test}
 use Rattle.game.specs.declared.Routine.{Routine}
 use Rattle.game.specs.Game.{blank}
-use Rattle.game.proofs.Below.{by-test}
+use Rattle.orders.proofs.Stores.{map-set, same-at}
 use Rattle.round.specs.Actions.{kept, each, inStage1, inStage4, getsStopped, staysListed, withoutOrders}
-use Rattle.round.proofs.Maps.{map-set, same-at}
 use Rattle.round.proofs.Actions.{each-keeps, started, stopping, order, after, field-same}
 use Rattle.rules.specs.Instructions.{CONT}
 use Rattle.rules.specs.Schedulers.{Stage, notStarted, is, stopped, has, isTerminated}

@@ -12,19 +12,19 @@ use lib.Seq.{map-set-same}
 use lib.IntN.{ℤ}
 use Rattle.numbers.specs.Choice.{if_then_else_}
 use Rattle.numbers.specs.declared.Sum.{Sum}
+use Rattle.numbers.proofs.Tests.{and-both, by-test}
 use Rattle.book.specs.Layout.{mostRoutines}
 use Rattle.game.specs.declared.Routine.{Routine}
 use Rattle.game.specs.Lines.{isIn, pushed, entriesOf}
 use Rattle.game.specs.Game.{notStarted, blank, routineAt, withFlags, withRoutine, withStarting}
 use Rattle.game.specs.Game as game
 use Rattle.game.specs.Fits.{In}
-use Rattle.game.proofs.Below.{and-both, by-test}
 use Rattle.game.proofs.Lists.{is-in}
 use Rattle.game.proofs.Room.{room}
+use Rattle.orders.proofs.Stores.{map-set}
 use Rattle.round.specs.declared.Effect.the-variants.{Nothing, Mark, Put, Add, Give, GiveNumber, Start, Stop, Suspend, Resume}
 use Rattle.round.specs.State.{State, withGame}
 use Rattle.round.specs.Ticks.{effectOn, mostNumbers}
-use Rattle.round.proofs.Maps.{map-set}
 use Rattle.round.proofs.Entries.{pushed-entries}
 use Rattle.rules.specs.Instructions.{signal}
 use Rattle.rules.specs.Schedulers.{Stage, Scheduler, isAmong, statusOf, isNotStarted, moved, withEvent, withValue, put}

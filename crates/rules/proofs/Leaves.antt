@@ -12,6 +12,7 @@ use borrow.Author.Tests.{eqb-true, eqb-false}
 use lib.Dec.{eqb}
 use Rattle.numbers.specs.Numbers.{sumOf}
 use Rattle.numbers.proofs.Sums.{adds-up}
+use Rattle.numbers.proofs.Tests.{and-both, by-test}
 use Rattle.book.specs.Layout.{mostRoutines}
 use Rattle.kinds.specs.declared.Kind.{Kind}
 use Rattle.kinds.specs.declared.Kind.the-variants as kind
@@ -22,7 +23,6 @@ use Rattle.kinds.specs.declared.Form.the-variants.{Plain, Pausing}
 use Rattle.kinds.specs.Steps.{stepAt}
 use Rattle.kinds.specs.Forms.{formOf}
 use Rattle.game.specs.Game.{counterAt}
-use Rattle.game.proofs.Below.{and-both, by-test}
 use Rattle.blocks.specs.Blocks.{stands, viewAt}
 use Rattle.round.specs.declared.Ending.{Ending}
 use Rattle.round.specs.declared.Ending.the-variants.{Missed, Continued}

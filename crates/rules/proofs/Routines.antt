@@ -8,13 +8,14 @@ use Rattle.kinds.specs.Steps.{stepAt}
 use Rattle.blocks.specs.Blocks.{View, viewAt, deepest}
 use Rattle.blocks.specs.Parse.{ParsedBlock}
 use Rattle.book.specs.Layout.{routinesOf}
-use Rattle.book.specs.Book.{countsOf, routineSteps, viewOf}
+use Rattle.book.specs.Book.{countsOf, routineSteps}
 use Rattle.book.specs.Accepted.{Accepted}
+use Rattle.book.proofs.Laws.{own-places}
 use Rattle.round.specs.declared.Ending.{Ending}
 use Rattle.round.specs.declared.Position.{Position}
 use Rattle.round.specs.State.{State}
 use Rattle.round.specs.Jumps.{sizeOf}
-use Rattle.round.proofs.Parsed.{size-same, places-same}
+use Rattle.round.proofs.Parsed.{size-same}
 use Rattle.rules.specs.Instructions.{Instruction}
 use Rattle.rules.specs.Rules.{⟨_&_⟩⟶[_]⟨_&_⟩}
 use Rattle.rules.specs.Residual.{leftOfBlock, residual, _⇝_}
@@ -34,10 +35,7 @@ module _ (book : List ℕ) (a : Accepted book) (r : ℕ) (h : r < routinesOf boo
   Alike at e = (b : ParsedBlock at deepest 0 e) × ((x : Position) → residual book a r h x ≡ leftOfBlock r stepOf b x)
 
   parse : Alike (viewAt (countsOf book) steps (sizeOf steps)) (sizeOf steps)
-  parse =
-      subst (λ (at : ℕ → View). Alike at (sizeOf steps)) (places-same book a r h) (
-      subst (λ (e : ℕ). Alike (viewOf book r) e) (sym (size-same book a r h)) (a .nesting r h, λ x. refl)
-      )
+  parse = own-places book r refl (size-same book a r h) Alike (a .nesting r h, λ x. refl)
 
   pub routine-by-rules :
       {how : Ending} {y : Position} {u : State} {us : Marks} (n : ℕ) (x : Position) (s : State) (ms : Marks) (i : Instruction) →

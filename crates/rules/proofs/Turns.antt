@@ -7,6 +7,7 @@ use native.Mathlib.Omega.{arith}
 use Rattle.kinds.specs.declared.Step.{Step}
 use Rattle.kinds.specs.declared.Counts.{Counts}
 use Rattle.kinds.specs.Steps.{stepAt}
+use Rattle.kinds.proofs.Readable.{step-missing}
 use Rattle.blocks.specs.Blocks.{View, viewAt}
 use Rattle.blocks.specs.Parse.{ParsedBlock}
 use Rattle.book.specs.Layout.{mostRoutines}
@@ -17,7 +18,6 @@ use Rattle.round.specs.declared.Act.the-variants.{Halts}
 use Rattle.round.specs.State.{State}
 use Rattle.round.specs.Jumps.{sizeOf}
 use Rattle.round.specs.Ticks.{Tick, fresh, tick, tickAt}
-use Rattle.round.proofs.Forms.{none-there}
 use Rattle.rules.specs.Instructions.{TERM, Instruction, nothing}
 use Rattle.rules.specs.Schedulers.{Scheduler}
 use Rattle.rules.specs.Rules.{⟨_&_⟩⟶[_]⟨_&_⟩}
@@ -40,7 +40,7 @@ module _ (counts : Counts) (r : ℕ) (steps : List ℕ) where
     -- behind the last step the routine ends
     quits : (x : Position) (s : State) → x .place ≡ sizeOf steps → tick counts r steps x s .act ≡ Halts Ended (fresh (sizeOf steps))
     unfolding tick
-    quits x s l = ap (λ (a : Step). tickAt r steps x s a .act) (none-there counts steps (x .place) (omega arith))
+    quits x s l = ap (λ (a : Step). tickAt r steps x s a .act) (step-missing counts steps (x .place) (omega arith))
 
     module _ (h : Ending) (y : Position) (u : State) (us : Marks) {d : ℕ} (b : ParsedBlock at d 0 (sizeOf steps)) where
       -- i goes by the rules, with the turn's status, to what is left of the routine at y

@@ -1,10 +1,18 @@
--- A map over a list, and a store in the list: what the map makes of the list behind the store, and of each of its entries.
--- By induction over the list.
-use Prim.Native.Nat.{ℕ, zero, suc}
+-- A store in a list: what holds of each entry behind it, and what a map makes of the list and of its entries.
+-- By the place that is stored to and the others, and by induction over the list.
+use Prim.Native.Nat.{ℕ, zero, suc, _<_}
 use mathlib.Core.Path.{_≡_, refl, sym, _∙_, ap}
 use mathlib.Core.List.{List, [], _∷_, map}
-use lib.ListN.{getD, set, List·getD-map}
-use lib.Seq.{map-set-same}
+use native.Mathlib.Decide.{ℕ-discrete}
+use lib.ListN.{length, getD, set, List·getD-map}
+use lib.Seq.{getD-set-same, getD-set-other, map-set-same}
+
+-- what holds of the entry put in place n, and of the others, holds of each
+pub set-each :
+    {A : Type 0} (l : List A) (n : ℕ) (y d : A) (P : ℕ → A → Type 0) → n < length l → P n y →
+    ((i : ℕ) → (i ≡ n → ⊥) → P i (getD l i d)) → (i : ℕ) → P i (getD (set l n y) i d)
+set-each l n y d P h here others i =
+    elim (ℕ-discrete i n) [ yes e ↦ rw (e, getD-set-same l n y d h) here | no m ↦ rw (getD-set-other l n i y d m) (others i m) ]
 
 module _ {A B : Type 0} (f : A → B) where
   pub map-set : (l : List A) (i : ℕ) (x : A) → map f (set l i x) ≡ set (map f l) i (f x)
