@@ -62,6 +62,7 @@ pub mod Ends
 pub mod Misses
 pub mod Trying
 pub mod Tried
+pub mod Counters
 pub mod Whole
 pub mod FirstTurn
 pub mod CountsDown

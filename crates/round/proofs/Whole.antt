@@ -1,5 +1,6 @@
--- The history of a round leaves nothing out and is true: what its states and turns say happened is told, as often as it happened, and a try
--- finds its thing exactly if that was there from the start or came before.
+-- The history of a round leaves nothing out and is true: what its states and turns say happened is told, as often as it happened, a try
+-- finds its thing exactly if that was there from the start or came before, and the steps told as completed, in order, make the counters
+-- and numbers behind the round of the counters before it.
 use Prim.Native.Nat.{ℕ}
 use mathlib.Core.List.{List}
 use Rattle.book.specs.Accepted.{Accepted}
@@ -11,6 +12,7 @@ use Rattle.round.proofs.Accounts.{signals-completed, marks-completed}
 use Rattle.round.proofs.Ends.{ends-counted, ended-as-told}
 use Rattle.round.proofs.Misses.{misses-told}
 use Rattle.round.proofs.Tried.{comes, came, found, lacked}
+use Rattle.round.proofs.Counters.{contents-made}
 
 pub told-whole : (book : List ℕ) (a : Accepted book) (g : Game) → Sized g → Fits book g → ToldWhole book g
 told-whole book a g z f =
@@ -24,4 +26,5 @@ told-whole book a g z f =
       came = came book a g z f;
       found = found book a g z f;
       lacked = lacked book a g z f;
+      contents = contents-made book a g z f;
     }

@@ -1,23 +1,29 @@
--- The history of a round leaves nothing out and is true: what its states and turns say happened is told, as often as it happened, and a try
--- finds its thing exactly if that was there from the start or came before.
-use Prim.Native.Nat.{ℕ, _+_}
+-- The history of a round leaves nothing out and is true: what its states and turns say happened is told, as often as it happened, a try
+-- finds its thing exactly if that was there from the start or came before, and the steps told as completed, in order, make the counters
+-- and numbers behind the round of the counters before it.
+use Prim.Native.Nat.{ℕ, _+_, _-_}
 use mathlib.Core.Path.{_≡_}
 use mathlib.Core.Bool.{Bool, true, false}
 use mathlib.Core.List.{List, [], _∷_, _++_}
 use mathlib.Core.Logic.{_⊎_, _↔_}
 use lib.Dec.{eqb}
-use lib.ListN.{length}
+use lib.ListN.{length, getD, set}
+use lib.IntN.{ℤ, pos}
+use Rattle.numbers.specs.Choice.{if_then_else_}
+use Rattle.numbers.specs.Numbers.{sumOf, countOf}
+use Rattle.kinds.specs.Steps.{opAt, fieldA, fieldB, fieldN}
+use Rattle.book.specs.Book.{routineSteps}
 use Rattle.game.specs.declared.Game.{Game}
 use Rattle.game.specs.Game.{routineAt}
 use Rattle.game.specs.Game as stage
 use Rattle.round.specs.declared.Ending.the-variants.{Ended, Rested, Missed, Continued}
-use Rattle.round.specs.State.{Thing, Happening, gave, ended, missing, past, marked, completed, isThere}
+use Rattle.round.specs.State.{Thing, Happening, gave, ended, missing, past, marked, completed, numbersWith, isThere}
 use Rattle.round.specs.History.{howMany, Somewhere, Among}
 use Rattle.round.specs.Actions.{kept, atStart}
 use Rattle.round.specs.Rounds.{Turn, passedOver, took, listedIn, round, historyOf}
-use Rattle.round.specs.Demand.{isSignalStep, givesSignal, endsRoutine, Comes}
+use Rattle.round.specs.Demand.{opSignalNumber, isSignalStep, givesSignal, endsRoutine, Comes}
 use Rattle.round.specs.Answers.{marksIn}
-use Rattle.round.specs.Completed.{completes, isMarkStep}
+use Rattle.round.specs.Completed.{completes, isMarkStep, opAdd, opTake}
 
 -- a try finds its thing missing
 abbrev pub isMiss : Happening → Bool
@@ -37,6 +43,46 @@ missesOf (took Ended ∷ ts) = missesOf ts
 missesOf (took Rested ∷ ts) = missesOf ts
 missesOf (took Missed ∷ ts) = missesOf ts + 1
 missesOf (took Continued ∷ ts) = missesOf ts + 1
+
+-- "1 set", "12 read"
+abbrev pub opSet : ℕ
+opSet = 1
+
+abbrev pub opRead : ℕ
+opRead = 12
+
+-- the counters, and the numbers given so far, in order, each behind its signal
+abbrev pub Contents : Type 0
+Contents = List ℤ × List (ℕ × ℤ)
+
+-- what a step with these fields makes of them
+unfoldable pub madeBy : ℕ → ℕ → ℕ → ℤ → Contents → Contents
+madeBy op a b n (counters, numbers) =
+    let content : ℕ → ℤ = λ c. getD counters c (pos 0) in
+    -- "counter becomes n"
+    if eqb op opSet then (set counters a n, numbers)
+    -- "n is added"; "An addition beyond an end gives that end."
+    else if eqb op opAdd then (set counters a (sumOf (content a) n .sum), numbers)
+    -- "b's content is added to a"
+    else if eqb op opTake then (set counters a (sumOf (content a) (content b) .sum), numbers)
+    -- "rule 13, with b's content"
+    else if eqb op opSignalNumber then (counters, numbers ++ ((a, content b) ∷ []))
+    -- "n = k, 1 to 64", "the k-th number goes to b"
+    else if eqb op opRead then (set counters b (getD (numbersWith a numbers) (countOf n - 1) (pos 0)), numbers)
+    -- any other step changes neither
+    else (counters, numbers)
+
+-- what the steps told as completed make of them, in order; nothing else that happens changes them
+unfoldable pub contentsAfter : List ℕ → List Happening → Contents → Contents
+contentsAfter book [] c = c
+contentsAfter book (gave e k ∷ told) c = contentsAfter book told c
+contentsAfter book (ended r ∷ told) c = contentsAfter book told c
+contentsAfter book (missing r p t ∷ told) c = contentsAfter book told c
+contentsAfter book (past r p t ∷ told) c = contentsAfter book told c
+contentsAfter book (marked r n ∷ told) c = contentsAfter book told c
+contentsAfter book (completed r p ∷ told) c =
+    let steps = routineSteps book r in
+    contentsAfter book told (madeBy (opAt steps p) (fieldA steps p) (fieldB steps p) (fieldN steps p) c)
 
 -- in a round from game g
 pub record ToldWhole (book : List ℕ) (g : Game) : Type 0 where
@@ -65,3 +111,7 @@ pub record ToldWhole (book : List ℕ) (g : Game) : Type 0 where
   pub lacked :
       (before after : List Happening) (r p : ℕ) (t : Thing) → historyOf book g ≡ before ++ (missing r p t ∷ after) →
       (isThere (atStart g) t ≡ false) × (Somewhere (Comes t) before → ⊥)
+  -- the counters and numbers behind the round are what the steps told as completed make of the counters before it, with no number given yet
+  pub contents :
+      let last = round book g .played .state in
+      (last .game .counters, last .numbers) ≡ contentsAfter book (historyOf book g) (g .counters, [])
