@@ -9,6 +9,7 @@ use lib.Dec.{eqb}
 use lib.ListN.{length, getD, set, replicate}
 use lib.IntN.{ℤ, pos}
 use Rattle.numbers.specs.Choice.{if_then_else_}
+use Rattle.kinds.specs.declared.Counts.{Counts}
 use Rattle.book.specs.Layout.{mostRoutines, mostSignals, mostCounters}
 use Rattle.game.specs.declared.Routine.{Routine}
 use Rattle.game.specs.declared.Line.{Line}
@@ -46,17 +47,21 @@ blank =
       resuming = false;
     }
 
--- a game whose fields are all 0
-unfoldable pub blankGame : Game
-blankGame =
+-- a game for these numbers, all else in it 0
+abbrev pub blankFor : Counts → Game
+blankFor counts =
     record {
-      counts = record { routines = 0; signals = 0; counters = 0 };
+      counts = counts;
       routines = replicate mostRoutines blank;
       counters = replicate mostCounters (pos 0);
       listed = empty;
       starting = empty;
       broadcast = replicate mostSignals false;
     }
+
+-- a game whose fields are all 0
+unfoldable pub blankGame : Game
+blankGame = blankFor (record { routines = 0; signals = 0; counters = 0 })
 
 abbrev pub routineAt : Game → ℕ → Routine
 routineAt g r = getD (g .routines) r blank

@@ -9,9 +9,9 @@ use Rattle.book.specs.Verdicts.{accepted}
 use Rattle.game.specs.declared.Game.{Game}
 use Rattle.game.specs.Game.{Sized}
 use Rattle.game.specs.Fitting.{fitsBook}
-use Rattle.game.specs.Fits.{Fits}
 use Rattle.game.proofs.Decides.{fits-decides}
 use Rattle.orders.specs.declared.Outcome.{Outcome}
+use Rattle.orders.specs.SetUp.{GivesFitting}
 use Rattle.orders.specs.Orders.{orderVerdict, obeyed, ordered}
 use Rattle.orders.specs.Tells.{OrderTells}
 use Rattle.orders.proofs.Games.{game-lent, game-either}
@@ -29,9 +29,9 @@ right-given s g kind n (a, f, h) = rw (order-told-only (OrderTells.nothing a f h
 module _ (s : List ℕ) (g : Game) (kind n : ℕ) (z : Sized g) where
   pub order-sized : Sized (ordered s g kind n .game)
   unfolding ordered
-  order-sized = game-either (orderVerdict s g kind n) (obeyed g kind n) g Sized (obeyed-sized g z kind n) z
+  order-sized = game-either (orderVerdict s g kind n) (obeyed g kind n) g Sized (λ e. obeyed-sized g z kind n) z
 
-  pub order-fits : ordered s g kind n .verdict ≡ accepted → Fits s (ordered s g kind n .game)
+  pub order-fits : GivesFitting s (ordered s g kind n)
   unfolding ordered
   order-fits e =
       let (a, f, h) = told-right (order-tells s g kind n) (ap (λ v. v .number) e) in

@@ -29,4 +29,4 @@ obeyed-apart g (suc (suc (suc (suc (suc kind))))) n = refl
 pub order-apart : (s : List ℕ) (g : Game) (kind n : ℕ) → without kind (ordered s g kind n .game) ≡ without kind g
 unfolding ordered
 order-apart s g kind n =
-    game-either (orderVerdict s g kind n) (obeyed g kind n) g (λ h. without kind h ≡ without kind g) (obeyed-apart g kind n) refl
+    game-either (orderVerdict s g kind n) (obeyed g kind n) g (λ h. without kind h ≡ without kind g) (λ e. obeyed-apart g kind n) refl

@@ -1,16 +1,26 @@
 -- The game of an answer is the one given where nothing is turned down, and otherwise the one lent.
--- By the test of the verdict's number.
-use mathlib.Core.Path.{_≡_}
+-- By the test of the verdict's number. Besides: what a contract promises of an answer, and lengths as a lent game's arrays show them.
+use Prim.Native.Nat.{ℕ}
+use mathlib.Core.Path.{_≡_, sym, _∙_, subst}
+use mathlib.Core.List.{List, map}
 use lib.Dec.{eqb}
-use borrow.Author.Tests.{ne-eqb}
+use lib.ListN.{length, length-map}
+use borrow.Author.Tests.{eqb-true, ne-eqb}
 use Rattle.numbers.proofs.Tests.{by-test}
 use Rattle.book.specs.declared.Verdict.{Verdict}
 use Rattle.game.specs.declared.Game.{Game}
-use Rattle.orders.specs.SetUp.{unlessRefused}
+use Rattle.orders.specs.declared.Outcome.{Outcome}
+use Rattle.orders.specs.SetUp.{unlessRefused, GivesFitting}
 
 module _ (v : Verdict) (given lent : Game) where
   pub game-lent : (v .number ≡ 0 → ⊥) → unlessRefused v given lent .game ≡ lent
   game-lent n = rw (ne-eqb (v .number) 0 n)
 
-  pub game-either : (P : Game → Type 0) → P given → P lent → P (unlessRefused v given lent .game)
-  game-either P p q = by-test P (eqb (v .number) 0) (λ e. p) (λ e. q)
+  pub game-either : (P : Game → Type 0) → (v .number ≡ 0 → P given) → P lent → P (unlessRefused v given lent .game)
+  game-either P p q = by-test P (eqb (v .number) 0) (λ e. p (eqb-true (v .number) 0 e)) (λ e. q)
+
+pub promised : {s : List ℕ} {r o : Outcome} → GivesFitting s o → r ≡ o → (r ≡ o) × GivesFitting s r
+promised {s} f e = (e, subst (GivesFitting s) (sym e) f)
+
+pub length-mapped : (X Y : Type 0) (f : X → Y) (l : List X) (n : ℕ) → length (map f l) ≡ n → length l ≡ n
+length-mapped X Y f l n p = sym (length-map l f) ∙ p

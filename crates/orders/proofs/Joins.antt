@@ -1,5 +1,5 @@
 -- An accepted order joins its list or set. By kind: its number is a place in the arrays of a game that fits,
--- and the list of those to start has room for a routine that is not in it.
+-- and the list of those to start has room for a routine that is not in it. A start of a routine that is not in stage 0 adds nothing.
 use Prim.Native.Nat.{ℕ, zero, suc, _<_}
 use mathlib.Core.Path.{_≡_, refl, _∙_, ap}
 use mathlib.Core.Bool.{Bool, true, false}
@@ -12,7 +12,7 @@ use Rattle.book.specs.Book.{countsOf}
 use Rattle.book.specs.Accepted.{CountsInRange}
 use Rattle.game.specs.declared.Routine.{Routine}
 use Rattle.game.specs.declared.Game.{Game}
-use Rattle.game.specs.Game.{blank, routineAt, withRoutine, Sized}
+use Rattle.game.specs.Game.{notStarted, blank, routineAt, withRoutine, Sized}
 use Rattle.game.specs.Fits.{Fits}
 use Rattle.game.proofs.Room.{start-joins}
 use Rattle.orders.specs.Orders.{orderCount, obeyed, ordered}
@@ -24,18 +24,21 @@ module _ (s : List ℕ) (g : Game) (range : CountsInRange s) (z : Sized g) where
   flagged n x flag e h =
       let there = getD-set-same (g .routines) n x blank (omega (arith, range .fewRoutines, z .routines)) in ap flag there ∙ e
 
-  obeyed-joins : Fits s g → (kind n : ℕ) → n < orderCount (countsOf s) kind → Joined kind (obeyed g kind n) n
+  obeyed-joins :
+      Fits s g → (kind n : ℕ) → n < orderCount (countsOf s) kind → (kind ≡ 1 → routineAt g n .stage ≡ notStarted) →
+      Joined kind (obeyed g kind n) n
   unfolding obeyed Joined
-  obeyed-joins f zero n h = getD-set-same (g .broadcast) n true false (omega (arith, range .fewSignals, z .broadcast))
-  obeyed-joins f (suc zero) n h = start-joins s g n range z f h
-  obeyed-joins f (suc (suc zero)) n h = flagged n _ (λ x. x .stopping) refl h
-  obeyed-joins f (suc (suc (suc zero))) n h = flagged n _ (λ x. x .suspending) refl h
-  obeyed-joins f (suc (suc (suc (suc zero)))) n h = flagged n _ (λ x. x .resuming) refl h
-  obeyed-joins f (suc (suc (suc (suc (suc kind))))) n h = absurd (omega arith)
+  obeyed-joins f zero n h new = getD-set-same (g .broadcast) n true false (omega (arith, range .fewSignals, z .broadcast))
+  obeyed-joins f (suc zero) n h new = start-joins s g n range z f h (new refl)
+  obeyed-joins f (suc (suc zero)) n h new = flagged n _ (λ x. x .stopping) refl h
+  obeyed-joins f (suc (suc (suc zero))) n h new = flagged n _ (λ x. x .suspending) refl h
+  obeyed-joins f (suc (suc (suc (suc zero)))) n h new = flagged n _ (λ x. x .resuming) refl h
+  obeyed-joins f (suc (suc (suc (suc (suc kind))))) n h new = absurd (omega arith)
 
 pub order-joins :
-    (s : List ℕ) (g : Game) (kind n : ℕ) → Sized g → ordered s g kind n .verdict ≡ accepted → Joined kind (ordered s g kind n .game) n
+    (s : List ℕ) (g : Game) (kind n : ℕ) → Sized g → ordered s g kind n .verdict ≡ accepted →
+    (kind ≡ 1 → routineAt g n .stage ≡ notStarted) → Joined kind (ordered s g kind n .game) n
 unfolding ordered
-order-joins s g kind n z e =
+order-joins s g kind n z e new =
     let (a, f, h) = told-right (order-tells s g kind n) (ap (λ v. v .number) e) in
-    rw e (obeyed-joins s g (a .laid .counts) z f kind n h)
+    rw e (obeyed-joins s g (a .laid .counts) z f kind n h new)

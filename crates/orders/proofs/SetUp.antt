@@ -10,7 +10,6 @@ use lib.ListN.{getD, replicate, length-replicate}
 use lib.IntN.{pos}
 use lib.Signed.{leZ-yes}
 use Rattle.kinds.specs.declared.Counts.{Counts}
-use Rattle.book.specs.Verdicts.{accepted}
 use Rattle.book.specs.Layout.{mostRoutines, mostSignals, mostCounters}
 use Rattle.book.specs.Book.{countsOf, bookVerdict}
 use Rattle.book.specs.Accepted.{Accepted}
@@ -19,7 +18,7 @@ use Rattle.game.specs.declared.Game.{Game}
 use Rattle.game.specs.Game.{notStarted, blank, routineAt, Sized}
 use Rattle.game.specs.Lines.{mostEntries, empty, itemAt, pushed}
 use Rattle.game.specs.Fits.{Fits}
-use Rattle.orders.specs.SetUp.{newGame, setUp}
+use Rattle.orders.specs.SetUp.{GivesFitting, newGame, setUp}
 use Rattle.orders.proofs.Games.{game-either}
 
 -- each entry of a list that repeats one value is that value, past its end too
@@ -81,8 +80,8 @@ new-game-fits s a =
 
 pub set-up-sized : (s : List ℕ) (g : Game) → Sized g → Sized (setUp s g .game)
 unfolding setUp
-set-up-sized s g z = game-either (bookVerdict s) (newGame (countsOf s)) g Sized (new-game-sized (countsOf s)) z
+set-up-sized s g z = game-either (bookVerdict s) (newGame (countsOf s)) g Sized (λ e. new-game-sized (countsOf s)) z
 
-pub set-up-fits : (s : List ℕ) (g : Game) → setUp s g .verdict ≡ accepted → Fits s (setUp s g .game)
+pub set-up-fits : (s : List ℕ) (g : Game) → GivesFitting s (setUp s g)
 unfolding setUp
 set-up-fits s g e = rw e (new-game-fits s (accepted-tells s .0 e))

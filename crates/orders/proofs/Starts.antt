@@ -1,11 +1,13 @@
 -- A routine that joins those to start: the list is as it was, or has the routine behind its last entry.
--- Both fit, and a second start of the same routine adds nothing.
+-- Both fit, what was in it is still there, and a second start of the same routine adds nothing.
 use Prim.Native.Nat.{ℕ, _+_, _<_, _≤_}
 use mathlib.Core.Path.{_≡_, refl, sym, _∙_}
 use mathlib.Core.Bool.{true, false, _&&_, not, true≢false, and-false}
 use mathlib.Core.List.{List}
+use mathlib.Core.Logic.{_⊎_, inl, inr}
 use native.Mathlib.Omega.{arith}
-use borrow.Author.Tests.{ltb-true, eqb-true, not-true}
+use native.Mathlib.Decide.{ℕ-discrete}
+use borrow.Author.Tests.{ltb-true, eqb-true, ne-eqb, not-true}
 use lib.Dec.{ltb, eqb}
 use lib.ListN.{length, length-set}
 use lib.Seq.{getD-set-same, getD-set-other}
@@ -15,9 +17,14 @@ use Rattle.game.specs.declared.Line.{Line}
 use Rattle.game.specs.declared.Game.{Game}
 use Rattle.game.specs.Lines.{mostEntries, itemAt, isIn, joined}
 use Rattle.game.specs.Game.{notStarted, routineAt, withStart}
+use Rattle.game.specs.Fits.{In}
 use Rattle.game.proofs.Lists.{LineRight, is-in}
+use Rattle.orders.specs.Joined.{OnlyAdds}
 use Rattle.orders.proofs.Changed.{Starts}
 use Rattle.orders.proofs.Stores.{set-each}
+
+pub nothing-added : {n : ℕ} {P : ℕ → Type 0} → OnlyAdds n P P
+nothing-added = record { stays = λ m h. h; only = λ m h. inl h }
 
 module _ (l : Line) (r stage : ℕ) where
   -- a claim on the list after a start: nothing was added, or a routine in stage 0 that was not in it
@@ -34,6 +41,12 @@ module _ (l : Line) (r stage : ℕ) where
       (λ full. same))
       (λ old. same)
       refl
+
+  -- "A start of a routine that isn't in stage 0, or is already to start, adds nothing."
+  pub start-nothing : (stage ≡ notStarted → ⊥) ⊎ (isIn l r ≡ true) → withStart l r stage ≡ l
+  unfolding withStart
+  start-nothing (inl n) = rw (ne-eqb stage notStarted n)
+  start-nothing (inr e) = rw (e, and-false)
 
   pub start-sized : length (l .items) ≡ mostEntries → length (withStart l r stage .items) ≡ mostEntries
   start-sized z = start-either (λ m. length (m .items) ≡ mostEntries) (λ e. z) (λ room e new. length-set (l .items) (l .len) r ∙ z)
@@ -78,6 +91,18 @@ module _ (l : Line) (r : ℕ) (z : length (l .items) ≡ mostEntries) where
             λ k (i, h, e).
             set-each (l .items) (l .len) r 0 (λ i v. i < l .len + 1 → v ≡ k → routineAt g k .stage ≡ notStarted) (inside room)
             (λ a e. rw (← e) stage) (λ i n a e. t .starting k (i, omega arith, e)) i h e;
+      })
+
+  -- what was in the list stays, and r is all that comes to it
+  pub start-adds : (stage : ℕ) → OnlyAdds r (In l) (In (withStart l r stage))
+  start-adds stage =
+      start-either l r stage (λ k. OnlyAdds r (In l) (In k)) (λ e. nothing-added) (λ room e new.
+      record {
+        stays = λ m (i, h, e). (i, omega arith, joined-before room i (λ k. omega arith) ∙ e);
+        only =
+            λ m (i, h, e).
+            set-each (l .items) (l .len) r 0 (λ i v. i < l .len + 1 → v ≡ m → In l m ⊎ (m ≡ r)) (inside room)
+            (λ a e. inr (sym e)) (λ i n a e. inl (i, omega arith, e)) i h e;
       })
 
   pub start-again : (stage : ℕ) → withStart (withStart l r stage) r stage ≡ withStart l r stage

@@ -1,35 +1,30 @@
 -- Setting up a game: document 01, "The game".
 use Prim.Native.Nat.{ℕ}
-use mathlib.Core.Bool.{false}
+use mathlib.Core.Path.{_≡_}
 use mathlib.Core.List.{List}
 use lib.Dec.{eqb}
-use lib.ListN.{replicate}
-use lib.IntN.{pos}
 use Rattle.numbers.specs.Choice.{if_then_else_}
 use Rattle.kinds.specs.declared.Counts.{Counts}
 use Rattle.book.specs.declared.Verdict.{Verdict}
-use Rattle.book.specs.Layout.{mostRoutines, mostSignals, mostCounters}
+use Rattle.book.specs.Verdicts.{accepted}
 use Rattle.book.specs.Book.{countsOf, bookVerdict}
 use Rattle.game.specs.declared.Game.{Game}
 use Rattle.game.specs.Lines.{empty, pushed}
-use Rattle.game.specs.Game.{blank}
+use Rattle.game.specs.Game.{blankFor, withStarting}
+use Rattle.game.specs.Fits.{Fits}
 use Rattle.orders.specs.declared.Outcome.{Outcome}
 
 -- a verdict, with the game given where nothing is turned down; "After a refusal game and mark buffer are as lent"
 abbrev pub unlessRefused : Verdict → Game → Game → Outcome
 unlessRefused v given lent = record { verdict = v; game = if eqb (v .number) 0 then given else lent }
 
+-- where nothing is turned down, the game of an answer fits the book
+abbrev pub GivesFitting : List ℕ → Outcome → Type 0
+GivesFitting s o = o .verdict ≡ accepted → Fits s (o .game)
+
 -- "all stages, counters and places 0, routine 0 is to start, the rest empty"
 unfoldable pub newGame : Counts → Game
-newGame counts =
-    record {
-      counts = counts;
-      routines = replicate mostRoutines blank;
-      counters = replicate mostCounters (pos 0);
-      listed = empty;
-      starting = pushed empty 0;
-      broadcast = replicate mostSignals false;
-    }
+newGame counts = withStarting (blankFor counts) (pushed empty 0)
 
 -- "Set-up replaces a game that it is lent", "Reading a book and set-up check 1 to 7"
 unfoldable pub setUp : List ℕ → Game → Outcome

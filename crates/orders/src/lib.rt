@@ -20,7 +20,7 @@ use kinds::Counts;
 ghost use mathlib.Core.Path.{_≡_};
 ghost use Prim.Native.Nat.{_<_};
 ghost use Rattle.book.specs.Verdicts.{refused};
-ghost use Rattle.orders.specs.SetUp.{newGame, setUp};
+ghost use Rattle.orders.specs.SetUp.{newGame, setUp, GivesFitting};
 ghost use Rattle.orders.specs.Orders.{orderCount, mostCounts, orderVerdict, obeyed, ordered};
 
 // The kinds of an order.
@@ -70,7 +70,7 @@ fn new_game(counts: Counts, game: Game) -> Game
 
 // Replaces a lent game by the one that a play of the book begins with. Checks 1 to 7; a refusal hands the game back as lent.
 pub fn set_up(book: &[u8], game: Game) -> Outcome
-    ensures { λ r. ⌜ r ≡ setUp (now (book .entry)) game ⌝ }
+    ensures { λ r. ⌜ (r ≡ setUp (now (book .entry)) game) × GivesFitting (now (book .entry)) r ⌝ }
 {
     let verdict = verdict_of(read_book(book));
     if verdict.number == 0 {
@@ -153,7 +153,7 @@ fn obey(game: Game, kind: u32, number: usize) -> Game
 
 // Gives a game an outside order for the next round; a refusal hands the game back as lent. The kind and the number may be anything.
 pub fn order(book: &[u8], game: Game, kind: u32, number: u32) -> Outcome
-    ensures { λ r. ⌜ r ≡ ordered (now (book .entry)) game kind number ⌝ }
+    ensures { λ r. ⌜ (r ≡ ordered (now (book .entry)) game kind number) × GivesFitting (now (book .entry)) r ⌝ }
 {
     let verdict = order_verdict(book, game, kind, number);
     if verdict.number == 0 {

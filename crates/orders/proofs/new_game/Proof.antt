@@ -1,21 +1,18 @@
 -- `orders::new_game` meets its contract. The loop's invariant: there are as many routines as ever, and those passed are blank.
 -- So after the loop all are, and the other parts are the contract's own.
-use Prim.Native.Nat.{ℕ, _-_, _≤_}
+use Prim.Native.Nat.{_-_, _≤_}
 use mathlib.Core.Path.{_≡_, refl, sym, _∙_}
-use mathlib.Core.List.{List, map}
 use native.Mathlib.Numerals.{add-one}
 use native.Mathlib.Omega.{arith}
 use borrow.Author.Needs.{needs}
-use lib.ListN.{length, take, replicate, length-set, length-map, replicate-append-replicate}
+use lib.ListN.{length, take, replicate, length-set, replicate-append-replicate}
 use lib.Seq.{take-suc-set, take-all}
 use Rattle.book.specs.Layout.{mostRoutines}
 use Rattle.game.specs.Game.{blank}
 use Rattle.orders.specs.SetUp.{newGame}
+use Rattle.orders.proofs.Games.{length-mapped}
 use Rattle.orders.proofs.new_game.Statement.{statement}
 use Rattle.orders.proofs.new_game.Tie as tie
-
-length-mapped : (X Y : Type 0) (f : X → Y) (l : List X) (n : ℕ) → length (map f l) ≡ n → length l ≡ n
-length-mapped X Y f l n p = sym (length-map l f) ∙ p
 
 abbrev Inv-loop : tie.InvT-loop
 Inv-loop counts next₀ routine₀ next routine =

@@ -2,14 +2,15 @@
 -- The measure is what is left of them.
 use Prim.Native.Nat.{_≤_, _-_}
 use borrow.Author.Needs.{needs}
+use Rattle.book.specs.Layout.{mostCounters}
 use Rattle.game_vectors.proofs.printing.print_counters.Statement.{statement}
 use Rattle.game_vectors.proofs.printing.print_counters.Tie as tie
 
 abbrev Inv-loop : tie.InvT-loop
-Inv-loop count counters at₀ at = at ≤ 64
+Inv-loop count counters at₀ at = at ≤ mostCounters
 
 abbrev μ-loop : tie.MeasureT-loop
-μ-loop count counters at₀ at = 64 - at
+μ-loop count counters at₀ at = mostCounters - at
 
 pub print-counters-spec : {M : Type 1} → statement M
 print-counters-spec =

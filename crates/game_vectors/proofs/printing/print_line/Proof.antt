@@ -2,14 +2,15 @@
 -- The measure is what is left of them.
 use Prim.Native.Nat.{_≤_, _-_}
 use borrow.Author.Needs.{needs}
+use Rattle.game.specs.Lines.{mostEntries}
 use Rattle.game_vectors.proofs.printing.print_line.Statement.{statement}
 use Rattle.game_vectors.proofs.printing.print_line.Tie as tie
 
 abbrev Inv-loop : tie.InvT-loop
-Inv-loop name line items at₀ at = at ≤ 64
+Inv-loop name line items at₀ at = at ≤ mostEntries
 
 abbrev μ-loop : tie.MeasureT-loop
-μ-loop name line items at₀ at = 64 - at
+μ-loop name line items at₀ at = mostEntries - at
 
 pub print-line-spec : {M : Type 1} → statement M
 print-line-spec =

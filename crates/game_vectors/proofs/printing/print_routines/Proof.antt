@@ -2,14 +2,15 @@
 -- The measure is what is left of them.
 use Prim.Native.Nat.{_≤_, _-_}
 use borrow.Author.Needs.{needs}
+use Rattle.book.specs.Layout.{mostRoutines}
 use Rattle.game_vectors.proofs.printing.print_routines.Statement.{statement}
 use Rattle.game_vectors.proofs.printing.print_routines.Tie as tie
 
 abbrev Inv-loop : tie.InvT-loop
-Inv-loop count routines at₀ at = at ≤ 64
+Inv-loop count routines at₀ at = at ≤ mostRoutines
 
 abbrev μ-loop : tie.MeasureT-loop
-μ-loop count routines at₀ at = 64 - at
+μ-loop count routines at₀ at = mostRoutines - at
 
 pub print-routines-spec : {M : Type 1} → statement M
 print-routines-spec =

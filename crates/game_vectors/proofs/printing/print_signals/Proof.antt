@@ -2,14 +2,15 @@
 -- The measure is what is left of them.
 use Prim.Native.Nat.{_≤_, _-_}
 use borrow.Author.Needs.{needs}
+use Rattle.book.specs.Layout.{mostSignals}
 use Rattle.game_vectors.proofs.printing.print_signals.Statement.{statement}
 use Rattle.game_vectors.proofs.printing.print_signals.Tie as tie
 
 abbrev Inv-loop : tie.InvT-loop
-Inv-loop signals at₀ at = at ≤ 64
+Inv-loop signals at₀ at = at ≤ mostSignals
 
 abbrev μ-loop : tie.MeasureT-loop
-μ-loop signals at₀ at = 64 - at
+μ-loop signals at₀ at = mostSignals - at
 
 pub print-signals-spec : {M : Type 1} → statement M
 print-signals-spec =

@@ -1,0 +1,81 @@
+-- An order adds its number to its list or set and nothing else: what was there stays. By kind: another entry of an array is as it was.
+-- A start that document 01 says adds nothing gives the very same game, since those to start are as they were.
+use Prim.Native.Nat.{ℕ, zero, suc}
+use mathlib.Core.Path.{_≡_, refl, ap}
+use mathlib.Core.Bool.{Bool, true, false}
+use mathlib.Core.List.{List}
+use mathlib.Core.Logic.{_⊎_, inl, inr, ⊎-elim}
+use native.Mathlib.Omega.{arith}
+use native.Mathlib.Decide.{ℕ-discrete, decLt}
+use lib.ListN.{length, getD, set}
+use lib.Seq.{getD-set-same, getD-set-other, set-out}
+use Rattle.game.specs.declared.Routine.{Routine}
+use Rattle.game.specs.declared.Game.{Game}
+use Rattle.game.specs.Game.{notStarted, blank, routineAt, withStarting, withRoutine, Sized}
+use Rattle.game.specs.Lines.{isIn}
+use Rattle.game.specs.Fits.{In, Fits}
+use Rattle.game.proofs.Lists.{is-in}
+use Rattle.orders.specs.Orders.{orderVerdict, obeyed, ordered}
+use Rattle.orders.specs.Joined.{Joined, OnlyAdds}
+use Rattle.orders.proofs.Games.{game-either}
+use Rattle.orders.proofs.Starts.{nothing-added, start-nothing, start-adds}
+use Rattle.orders.proofs.Telling.{told-right, order-tells}
+
+-- a claim on an entry once y is put in place n: on y there, and on the others as they were
+entry-set :
+    {A : Type 0} (P : A → Type 0) (l : List A) (n : ℕ) (y d : A) (m : ℕ) → (m ≡ n → P y) → P (getD l m d) → P (getD (set l n y) m d)
+entry-set P l n y d m new old =
+    elim (ℕ-discrete m n) [
+      | no other ↦ rw (getD-set-other l n m y d other) old
+      | yes e ↦
+          elim (decLt n (length l)) [
+            | yes h ↦ rw (e, getD-set-same l n y d h) (new e)
+            | no out ↦ rw (set-out l n y (omega arith)) old
+          ]
+    ]
+
+-- an entry whose flag is set, put in place n
+flag-adds :
+    {A : Type 0} (flag : A → Bool) (l : List A) (n : ℕ) (y d : A) → flag y ≡ true →
+    OnlyAdds n (λ m. flag (getD l m d) ≡ true) (λ m. flag (getD (set l n y) m d) ≡ true)
+flag-adds flag l n y d e =
+    record {
+      stays = λ m. entry-set (λ x. flag x ≡ true) l n y d m (λ at. e);
+      only = λ m. entry-set (λ x. flag x ≡ true → (flag (getD l m d) ≡ true) ⊎ (m ≡ n)) l n y d m (λ at h. inr at) inl;
+    }
+
+module _ (g : Game) (z : Sized g) where
+  routine-adds :
+      (flag : Routine → Bool) (n : ℕ) (x : Routine) → flag x ≡ true →
+      OnlyAdds n (λ m. flag (routineAt g m) ≡ true) (λ m. flag (routineAt (withRoutine g n x) m) ≡ true)
+  routine-adds flag n x = flag-adds flag (g .routines) n x blank
+
+  obeyed-adds : (kind n : ℕ) → OnlyAdds n (Joined kind g) (Joined kind (obeyed g kind n))
+  unfolding obeyed Joined
+  obeyed-adds zero n = flag-adds (λ b. b) (g .broadcast) n true false refl
+  obeyed-adds (suc zero) n = start-adds (g .starting) n (z .starting) (routineAt g n .stage)
+  obeyed-adds (suc (suc zero)) n = routine-adds (λ x. x .stopping) n _ refl
+  obeyed-adds (suc (suc (suc zero))) n = routine-adds (λ x. x .suspending) n _ refl
+  obeyed-adds (suc (suc (suc (suc zero)))) n = routine-adds (λ x. x .resuming) n _ refl
+  obeyed-adds (suc (suc (suc (suc (suc kind))))) n = nothing-added
+
+-- one law for all kinds, after a refusal too
+pub order-adds : (s : List ℕ) (g : Game) (kind n : ℕ) → Sized g → OnlyAdds n (Joined kind g) (Joined kind (ordered s g kind n .game))
+unfolding ordered
+order-adds s g kind n z =
+    let P : Game → Type 0 = λ h. OnlyAdds n (Joined kind g) (Joined kind h) in
+    game-either (orderVerdict s g kind n) (obeyed g kind n) g P (λ e. obeyed-adds g z kind n) nothing-added
+
+-- "A start of a routine that isn't in stage 0, or is already to start, adds nothing."
+module _ (s : List ℕ) (g : Game) (n : ℕ) where
+  known : Fits s g → In (g .starting) n → isIn (g .starting) n ≡ true
+  known f = is-in (g .starting) (f .lengthsInRange .1) n .1
+
+  pub start-adds-nothing : (routineAt g n .stage ≡ notStarted → ⊥) ⊎ In (g .starting) n → ordered s g 1 n .game ≡ g
+  unfolding ordered obeyed
+  start-adds-nothing why =
+      game-either (orderVerdict s g 1 n) (obeyed g 1 n) g (λ h. h ≡ g)
+      (λ e.
+      let (a, f, h) = told-right (order-tells s g 1 n) e in
+      ap (withStarting g) (start-nothing (g .starting) n (routineAt g n .stage) (⊎-elim inl (λ i. inr (known f i)) why)))
+      refl
