@@ -1,4 +1,5 @@
 /* Reads lines of number, place and book on standard input: checks each book against its line, then damaged in several ways.
+ * At the end, bytes far longer than any book.
  * Each book lies in memory of just its length, so that valgrind sees a read before or behind it. */
 #define _POSIX_C_SOURCE 200809L
 #include <inttypes.h>
@@ -8,7 +9,7 @@
 
 #include "../examples/zulqenat.h"
 
-enum { WAYS = 10, MOST_ADDED = 16, HEADER = 12, STEP = 8 };
+enum { WAYS = 10, MOST_ADDED = 16, HEADER = 12, STEP = 8, LONG = 100000 };
 
 static uint64_t state = 1;
 
@@ -106,6 +107,22 @@ static unsigned long check_line(const char *line, unsigned long numbers[8])
     return WAYS + 1;
 }
 
+/* Checks LONG zeros, whose R is out of range; the book of a routine without steps; and that book with other bytes behind it up to
+ * LONG, whose length is wrong. How many books were checked, or 0 where one went wrong. */
+static unsigned long check_long(unsigned long numbers[8])
+{
+    static const uint8_t book[] = {1, 0, 0, 0, 0, 0, 0, 0, HEADER, 0, HEADER + 4, 0, 0, 0, 0, 0};
+    static const struct zulqenat_verdict accepted = {0, 0}, wrong_count = {2, 0}, wrong_length = {3, 0};
+    static uint8_t bytes[LONG];
+    if (!check(bytes, LONG, &wrong_count, numbers))
+        return 0;
+    memset(bytes, 6, LONG);
+    memcpy(bytes, book, sizeof book);
+    if (!check(bytes, sizeof book, &accepted, numbers) || !check(bytes, LONG, &wrong_length, numbers))
+        return 0;
+    return 3;
+}
+
 int main(void)
 {
     unsigned long numbers[8] = {0};
@@ -121,9 +138,14 @@ int main(void)
         books += checked;
     }
     free(line);
-    printf("%lu books checked; answers 0 to 7:", books);
+    unsigned long longer = check_long(numbers);
+    if (books == 0 || longer == 0) {
+        printf("%s\n", books == 0 ? "no books" : "went wrong at the bytes longer than any book");
+        return 1;
+    }
+    printf("%lu books checked; answers 0 to 7:", books + longer);
     for (int i = 0; i < 8; i++)
         printf(" %lu", numbers[i]);
     printf("\n");
-    return books > 0 ? 0 : 1;
+    return 0;
 }

@@ -4,10 +4,9 @@ pub mod layout;
 
 use kinds::STEP_BYTES;
 ghost use mathlib.Core.Path.{_≡_};
-ghost use Prim.Native.Nat.{_+_, _≤_};
-ghost use lib.ListN.{length};
+ghost use Prim.Native.Nat.{_+_};
 ghost use Rattle.book.specs.Verdicts.{refused, verdictOf, _orElse_};
-ghost use Rattle.book.specs.Book.{bookVerdict, routineFrom, routineSteps, shown, shownFrom};
+ghost use Rattle.book.specs.Book.{bookVerdict, routineSteps, routineStepsFrom, shown, shownFrom};
 
 // What reading a book answers: accepted, or the first refusal that applies, with its place where it has one.
 pub enum Answer {
@@ -100,11 +99,12 @@ pub fn show(book: &[u8], routine: usize) -> &[u8]
     routine_steps(book, routine)
 }
 
-// The steps of a routine where the directory says, without reading the book again; what is not there is left out.
+// The steps of a routine where the directory says, without reading the book again; what is not there is left out. For a
+// routine that begins past the book's end it gives the empty part at the book's start.
 pub fn routine_steps(book: &[u8], routine: usize) -> &[u8]
     ensures bytes { λ r. ⌜ now r ≡ routineSteps (now (book .entry)) routine ⌝ }
-    ensures place { λ r. ⌜ (routineFrom (now (book .entry)) routine ≤ length (now (book .entry)) →
-        (r .ptr .0 ≡ book .entry .ptr .0) × (r .ptr .1 ≡ book .entry .ptr .1 + routineFrom (now (book .entry)) routine)) ⌝ }
+    ensures place { λ r. ⌜ (r .ptr .0 ≡ book .entry .ptr .0)
+        × (r .ptr .1 ≡ book .entry .ptr .1 + routineStepsFrom (now (book .entry)) routine) ⌝ }
 {
     let from = layout::steps_from(book) + STEP_BYTES * layout::first_step(book, routine);
     let to = from + STEP_BYTES * layout::step_count(book, routine);

@@ -23,7 +23,7 @@ unfoldable pub findFrom : List ℕ → ℕ → ℕ → ℕ → ℕ
 findFrom text c zero i = i
 findFrom text c (suc n) i = if eqb (getD text i 0) c then i else findFrom text c n (i + 1)
 
--- the place of the first c from a place on; the text's length where there is none
+-- the place of the first c from a place on; where there is none, the text's length, or the place itself if that is further
 abbrev pub foundAt : List ℕ → ℕ → ℕ → ℕ
 foundAt text from c = findFrom text c (length text - from) from
 

@@ -7,7 +7,7 @@ use native.Mathlib.Omega.{arith}
 use borrow.Author.Needs.{needs}
 use borrow.Author.Tests.{ne-eqb}
 use lib.ListN.{length}
-use Rattle.kinds.specs.Steps.{opAt}
+use Rattle.kinds.specs.Steps.{stepBytes, opAt}
 use Rattle.blocks.specs.Blocks.{partnerBy, partnerOf}
 use Rattle.blocks.proofs.Reading.{partner-on, partner-past}
 use Rattle.blocks.proofs.partner.Statement.{statement}
@@ -15,7 +15,7 @@ use Rattle.blocks.proofs.partner.Tie as tie
 
 abbrev Inv-scan : tie.InvT-scan
 Inv-scan steps first count at₀ depth₀ at depth =
-    (partnerOf steps (count - at) depth at ≡ partnerOf steps (length steps / 8 - first) 0 first) × (depth + first ≤ at)
+    (partnerOf steps (count - at) depth at ≡ partnerOf steps (length steps / stepBytes - first) 0 first) × (depth + first ≤ at)
 
 abbrev μ-scan : tie.MeasureT-scan
 μ-scan steps first count at₀ depth₀ at depth = count - at
@@ -24,8 +24,8 @@ abbrev μ-scan : tie.MeasureT-scan
 step-on : (c : tie.Else1 Inv-scan μ-scan) →
     let s = c .before .before .args .steps .now in
     let p = c .before .scan .at in
-    partnerBy (λ e. partnerOf s (length s / 8 - (p + 1)) e (p + 1)) (opAt s p) (c .before .scan .depth) p
-    ≡ partnerOf s (length s / 8 - c .before .before .args .first) 0 (c .before .before .args .first)
+    partnerBy (λ e. partnerOf s (length s / stepBytes - (p + 1)) e (p + 1)) (opAt s p) (c .before .scan .depth) p
+    ≡ partnerOf s (length s / stepBytes - c .before .before .args .first) 0 (c .before .before .args .first)
 step-on c = sym (partner-on _ _ _ _ (c .if1 .left)) ∙ c .before .scan .inv .0
 
 scan-again : tie.Need-scan-again Inv-scan μ-scan

@@ -1,4 +1,5 @@
 -- `book::read_book` meets its contract: each check that accepts drops out of the verdict, and the first that refuses is the verdict.
+-- `laid`, `in-order` and `readable` turn the cases taken into "accepted"; the later checks require just that of the earlier ones.
 use mathlib.Core.Path.{_≡_, sym, ap, _∙_}
 use borrow.Author.Needs.{needs}
 use borrow.Author.Tests.{ne-eqb}

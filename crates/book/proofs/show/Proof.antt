@@ -11,7 +11,7 @@ use Rattle.book.specs.Verdicts.{verdictOf}
 use Rattle.book.specs.Layout.{routinesOf}
 use Rattle.book.specs.Book.{bookVerdict, shown, shownFrom}
 use Rattle.book.proofs.Answers.{refuses}
-use Rattle.book.proofs.Directory.{routine-start}
+use Rattle.book.proofs.Directory.{routine-start, begins-there}
 use Rattle.book.proofs.Laws.{shown-none, shown-routine, shown-from}
 use Rattle.book.proofs.Telling.{number-accepted}
 use Rattle.book.proofs.show.Statement.{statement}
@@ -50,8 +50,10 @@ returns-3 c =
     let h : start .args .routine < routinesOf (start .args .book .now) =
     omega (arith, c .before .if1 .left, c .before .before .routines .ensures .0) in
     let begins = routine-start _ (a .directed .entries) (a .directed .total) (a .laid .offsets .size) _ h in
-    let place = c .routine-steps .ensures .1 begins in
-    (c .routine-steps .ensures .0 ∙ sym (shown-routine _ a _ h), (place .0, rw (shown-from _ a _ h) (place .1)))
+    let place = c .routine-steps .ensures .1 in (
+      c .routine-steps .ensures .0 ∙ sym (shown-routine _ a _ h),
+      (place .0, rw (shown-from _ a _ h, ← (begins-there _ _ begins)) (place .1)),
+    )
 
 pub show-spec : {M : Type 1} → statement M
 show-spec =

@@ -1,4 +1,5 @@
--- `book::checks::check_steps` meets its contract. The invariant: the search for the first refused step from `at` on is the whole search.
+-- `book::checks::check_steps` meets its contract. The invariant: the search for the first refused step from `at` on is the whole search;
+-- a step that decodes drops out of it, and the first that does not is what it finds. The layout says that the steps begin in the book.
 use Prim.Native.Nat.{ℕ, _+_, _-_, _<_, _≤_}
 use mathlib.Core.Path.{_≡_, sym, ap, _∙_}
 use mathlib.Core.List.{List}
@@ -52,13 +53,9 @@ Inv-loop book counts all from part at₀ at =
 abbrev μ-loop : tie.MeasureT-loop
 μ-loop book counts all from part at₀ at = all - at
 
-sub-part : tie.Need-sub-part Inv-loop μ-loop
-sub-part c =
-    let laid = laid-out _ (ap (λ v. v .number) (c .before .before .before .before .pre)) in
-    omega (arith, laid .offsets .size, c .steps-from .ensures .0)
-
-part-part-start : tie.Need-part-part-start Inv-loop μ-loop
-part-part-start c =
+-- asked of the length behind the steps' first byte, and of that byte
+begins-within : tie.Need-sub-part Inv-loop μ-loop
+begins-within c =
     let laid = laid-out _ (ap (λ v. v .number) (c .before .before .before .before .pre)) in
     omega (arith, laid .offsets .size, c .steps-from .ensures .0)
 
@@ -98,8 +95,8 @@ check-steps-spec =
     (λ c κs. search needs)
     (λ c κs. search needs)
     (λ c κs. search needs)
-    sub-part
-    part-part-start
+    begins-within
+    begins-within
     (λ c. search needs)
     loop-holds
     (λ c κs. search needs)

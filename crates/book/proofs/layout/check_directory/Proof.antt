@@ -9,6 +9,7 @@ use borrow.Author.Needs.{needs}
 use borrow.Author.Tests.{eq-eqb, ne-eqb}
 use lib.Dec.{eqb}
 use Rattle.numbers.specs.Choice.{if_then_else_}
+use Rattle.numbers.specs.Numbers.{halfLimit}
 use Rattle.book.specs.declared.Verdict.{Verdict}
 use Rattle.book.specs.Verdicts.{accepted, refused, firstRefusal}
 use Rattle.book.specs.Layout.{routinesOf, stepsOf, firstStep, stepCount, stepsBefore, entryVerdict, directoryVerdict}
@@ -49,7 +50,7 @@ after s r = rw add-one
 abbrev Inv-loop : tie.InvT-loop
 Inv-loop book all routine₀ sum₀ routine sum =
     (search-from book all routine ≡ firstRefusal (entryVerdict book) all 0)
-    × (sum ≡ stepsBefore book routine) × (routine ≤ all) × (sum ≤ 65536 * routine)
+    × (sum ≡ stepsBefore book routine) × (routine ≤ all) × (sum ≤ halfLimit * routine)
 
 abbrev μ-loop : tie.MeasureT-loop
 μ-loop book all routine₀ sum₀ routine sum = all - routine

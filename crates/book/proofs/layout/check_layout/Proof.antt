@@ -1,4 +1,5 @@
 -- `book::layout::check_layout` meets its contract: a check that passes drops out of the verdict, and the first that does not is it.
+-- `past-counts` says what is left of the verdict where length and counts have passed: the test of the layout.
 use mathlib.Core.Path.{_≡_}
 use borrow.Author.Needs.{needs}
 use borrow.Author.Tests.{le-leb, lt-leb}

@@ -1,4 +1,5 @@
 -- `book::layout::counts_fit` meets its contract: a count in its range drops out of the test, and the first that is not settles it.
+-- Each `past-..` says what is left of the contract's test once the counts before have passed.
 use mathlib.Core.Path.{_≡_, _∙_}
 use mathlib.Core.Bool.{_&&_}
 use lib.Dec.{leb}

@@ -1,4 +1,5 @@
 -- `book::layout::layout_fits` meets its contract: an offset that is right drops out of the test, and the first that is not settles it.
+-- `past-offsets` says what is left of the contract's test behind both offsets: the length alone.
 use Prim.Native.Nat.{_+_, _*_}
 use mathlib.Core.Path.{_≡_}
 use lib.Dec.{eqb}

@@ -1,4 +1,5 @@
 -- `book::layout::step_count` meets its contract: an entry past the book's end reads 0, any other is read where it stands.
+-- A number not below a quarter of the length has its entry past the end; below that, the entry's place fits in a machine word.
 use mathlib.Core.Path.{sym}
 use borrow.Author.Needs.{needs}
 use Rattle.book.proofs.Directory.{entry-missing}

@@ -1,4 +1,5 @@
--- `book::layout::steps_from` meets its contract, by what `routines` ensures of the count and of its range.
+-- `book::layout::steps_from` meets its contract, by what `routines` ensures of the count and of its range:
+-- the count has 16 bits, so that product and sum fit in a machine word.
 use Prim.Native.Nat.{ℕ, _+_, _*_}
 use mathlib.Core.Path.{ap}
 use native.Mathlib.Omega.{arith}
