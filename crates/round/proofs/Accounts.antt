@@ -18,14 +18,13 @@ use Rattle.round.specs.declared.Position.{Position}
 use Rattle.round.specs.declared.Effect.{Effect}
 use Rattle.round.specs.State.{State, Thing, Happening, gave, ended, missing, past, marked, completed}
 use Rattle.round.specs.History.{howMany}
-use Rattle.round.specs.Actions.{atStart}
-use Rattle.round.specs.Rounds.{mostPasses, listedIn, turn, round, historyOf}
+use Rattle.round.specs.Rounds.{turn, historyOf}
 use Rattle.round.specs.Answers.{opMark, marksIn}
 use Rattle.round.specs.Tells.{numbersGiven}
 use Rattle.round.specs.Demand.{isSignalOp, isSignalStep, givesSignal}
 use Rattle.round.specs.Completed.{completes, isMarkStep}
 use Rattle.round.proofs.Histories.{many-append, stops-none}
-use Rattle.round.proofs.Along.{all-each, instant-along}
+use Rattle.round.proofs.Along.{round-always}
 use Rattle.round.proofs.Acts.{isTelling, Says, silent, marks, gives, givesNumber, finds}
 use Rattle.round.proofs.Stepping.{ticks-along}
 use Rattle.round.proofs.AfterTurn.{turn-by}
@@ -103,10 +102,7 @@ module _ (book : List ℕ) where
           turn-by book r s (λ p. Balanced test set (p .told)) (λ h. balanced-none) (λ h. all _ _ s)
 
       round-balanced : (g : Game) → Balanced test set (historyOf book g)
-      unfolding round
-      round-balanced g =
-          instant-along Claim (λ s. balanced-none) (λ s u v. balanced-both) book (λ r. Unit {0}) (λ r listed. turn-balanced r)
-          (λ s. balanced-none) mostPasses (listedIn g) (all-each (λ r. Unit {0}) (λ r. tt) (listedIn g)) (atStart g)
+      round-balanced = round-always Claim (λ s. balanced-none) (λ s u v. balanced-both) book turn-balanced (λ s. balanced-none)
 
   -- by the op of the step
   module _ (r : ℕ) (x : Position) (s : State) where

@@ -1,9 +1,10 @@
 -- The game after a round fits the book; the round has kept its playing order, and suspended nobody and resumed nobody, and a number that
--- was too many stayed so. The state behind the eight actions is sound, and turns, passes and a round's passes keep it so.
+-- was too many stayed so. The state behind the eight actions is sound, and turns keep it so; hence what holds of each turn in a sound state
+-- holds of a round.
 use Prim.Native.Nat.{ℕ, _<_}
 use mathlib.Core.Path.{_≡_, refl, sym, ap, _∙_}
 use mathlib.Core.Bool.{false}
-use mathlib.Core.List.{List, []}
+use mathlib.Core.List.{List, [], _++_}
 use lib.IntN.{ℤ}
 use Rattle.book.specs.declared.Verdict.{Verdict}
 use Rattle.book.specs.Verdicts.{accepted}
@@ -13,73 +14,86 @@ use Rattle.game.specs.declared.Game.{Game}
 use Rattle.game.specs.Game.{routineAt, Sized}
 use Rattle.game.specs.Fits.{Fits}
 use Rattle.round.specs.State.{State, Happening}
+use Rattle.round.specs.History.{Among}
 use Rattle.round.specs.Actions.{atStart}
-use Rattle.round.specs.Rounds.{again, mostPasses, listedIn, turn, pass, instant, round}
+use Rattle.round.specs.Rounds.{again, mostPasses, listedIn, turn, pass, instant, round, historyOf}
 use Rattle.round.specs.Answers.{answer}
 use Rattle.round.proofs.Telling.{round-tells, answer-verdict, played-out, told-playable}
-use Rattle.round.proofs.Along.{All, pass-along, instant-along}
+use Rattle.round.proofs.Along.{All, all-among, pass-along, instant-along}
 use Rattle.round.proofs.Sound.{Sound}
 use Rattle.round.proofs.Actions.{at-start-listed}
 use Rattle.round.proofs.Starting.{at-start-sound}
 use Rattle.round.proofs.Staying.{turn-sound, again-sound}
-use Rattle.round.proofs.Moving.{turn-suspended, turn-listed, turn-few}
+use Rattle.round.proofs.Turned.{turn-turned}
 
 -- what a round keeps from state s to state u
-pub record Kept (book : List ℕ) (s u : State) : Type 0 where
-  pub sound : Sound book u
+pub record Kept (s u : State) : Type 0 where
   pub listed : u .game .listed ≡ s .game .listed
   pub suspended : (r : ℕ) → routineAt (u .game) r .suspended ≡ routineAt (s .game) r .suspended
   pub few : u .tooMany ≡ false → s .tooMany ≡ false
 
 module _ (book : List ℕ) (a : Accepted book) where
   abbrev Keeps : State → List Happening → State → Type 0
-  Keeps s told u = Sound book s → Kept book s u
+  Keeps s told u = Kept s u
+
+  same-keeps : (s : State) → Keeps s [] s
+  same-keeps s = record { listed = refl; suspended = λ r. refl; few = λ h. h }
+
+  again-keeps : (s : State) → Keeps s [] (again s)
+  again-keeps s = record { listed = refl; suspended = λ r. refl; few = λ h. h }
 
   keeps-both : (s u v : State) (b c : List Happening) → Keeps s b u → Keeps u c v → Keeps s [] v
-  keeps-both s u v b c first second ok =
-      let one = first ok in
-      let two = second (one .sound) in
+  keeps-both s u v b c one two =
       record {
-        sound = two .sound;
         listed = two .listed ∙ one .listed;
         suspended = λ r. two .suspended r ∙ one .suspended r;
         few = λ h. one .few (two .few h);
       }
 
-  turn-keeps : (r : ℕ) → r < routinesOf book → (s : State) → Keeps s [] (turn book r s .state)
-  turn-keeps r l s ok =
-      record {
-        sound = turn-sound book a r s l ok;
-        listed = turn-listed book a r s l ok;
-        suspended = turn-suspended book a r s l ok;
-        few = turn-few book a r s l ok;
-      }
+  turn-keeps : (r : ℕ) (s : State) → r < routinesOf book → Sound book s → Kept s (turn book r s .state)
+  turn-keeps r s l ok =
+      let t = turn-turned book a r s l ok in
+      record { listed = t .sits .listed; suspended = t .sits .suspended; few = t .few }
 
-  same-keeps : (s : State) → Keeps s [] s
-  same-keeps s ok = record { sound = ok; listed = refl; suspended = λ r. refl; few = λ h. h }
-
-  again-keeps : (s : State) → Keeps s [] (again s)
-  again-keeps s ok = record { sound = again-sound s ok; listed = refl; suspended = λ r. refl; few = λ h. h }
-
-  pub pass-keeps : (rs : List ℕ) → All (λ r. r < routinesOf book) rs → (s : State) → Sound book s → Kept book s (pass book rs s .state)
-  pass-keeps = pass-along Keeps same-keeps keeps-both book (λ r. r < routinesOf book) turn-keeps
+  pub pass-keeps :
+      (rs : List ℕ) → All (λ r. r < routinesOf book) rs → (s : State) → Sound book s →
+      Sound book (pass book rs s .state) × Kept s (pass book rs s .state)
+  pass-keeps = pass-along Keeps same-keeps keeps-both book (Sound book) (λ r. r < routinesOf book) (turn-sound book a) turn-keeps
 
   pub instant-keeps :
       (n : ℕ) (rs : List ℕ) → All (λ r. r < routinesOf book) rs → (s : State) → Sound book s →
-      Kept book s (instant book n rs s .played .state)
-  instant-keeps = instant-along Keeps same-keeps keeps-both book (λ r. r < routinesOf book) turn-keeps again-keeps
+      Sound book (instant book n rs s .played .state) × Kept s (instant book n rs s .played .state)
+  instant-keeps =
+      instant-along Keeps same-keeps keeps-both book (Sound book) (λ r. r < routinesOf book) (turn-sound book a) turn-keeps again-sound
+      again-keeps
 
   module _ (g : Game) (z : Sized g) (f : Fits book g) where
-    pub round-keeps : Kept book (atStart g) (round book g .played .state)
+    below : All (λ r. r < routinesOf book) (listedIn g)
+    below = at-start-listed book g (a .laid .counts) z f
+
+    -- what holds of each turn of a listed routine in a sound state holds of a round
+    pub round-along :
+        (Claim : State → List Happening → State → Type 0) → ((s : State) → Claim s [] s) →
+        ((s u v : State) (b c : List Happening) → Claim s b u → Claim u c v → Claim s (b ++ c) v) →
+        ((r : ℕ) (s : State) → (r < routinesOf book) × Among r (listedIn g) → Sound book s →
+        Claim s (turn book r s .told) (turn book r s .state)) →
+        ((s : State) → Claim s [] (again s)) → Claim (atStart g) (historyOf book g) (round book g .played .state)
     unfolding round
-    round-keeps =
-        instant-keeps mostPasses (listedIn g) (at-start-listed book g (a .laid .counts) z f) (atStart g) (at-start-sound book g a z f)
+    round-along Claim none both turns agains =
+        let L = listedIn g in
+        let Below : ℕ → Type 0 = λ r. r < routinesOf book in
+        instant-along Claim none both book (Sound book) (λ r. Below r × Among r L) (λ r s l. turn-sound book a r s (l .0)) turns
+        again-sound agains mostPasses L (all-among Below L below) (atStart g) (at-start-sound book g a z f) .1
+
+    pub round-keeps : Sound book (round book g .played .state) × Kept (atStart g) (round book g .played .state)
+    unfolding round
+    round-keeps = instant-keeps mostPasses (listedIn g) below (atStart g) (at-start-sound book g a z f)
 
     pub round-fits : Fits book (round book g .played .state .game)
-    round-fits = round-keeps .sound .fits
+    round-fits = round-keeps .0 .fits
 
     pub round-sized : Sized (round book g .played .state .game)
-    round-sized = round-keeps .sound .sized
+    round-sized = round-keeps .0 .sized
 
 -- the game of an accepted answer
 pub answer-fits :

@@ -1,29 +1,28 @@
--- What holds of each turn holds of a pass and of a round's passes: for any claim on two states and what is told between them that holds of
--- a state and itself, and of one after the other. By induction on the listed routines, and on the passes allowed.
+-- What holds of each turn holds of a pass and of a round's passes: for any claim on a state and on the turns from it that holds of no turns
+-- and of some after others. By induction on the listed routines, and on the passes allowed. So too for any claim on two states and what is
+-- told between them, from the states that turns keep.
 use Prim.Native.Nat.{ℕ, zero, suc}
 use mathlib.Core.Path.{refl}
 use mathlib.Core.List.{List, [], _∷_, _++_}
 use mathlib.Core.Logic.{inl, inr}
 use Rattle.numbers.proofs.Tests.{by-test}
+use Rattle.game.specs.declared.Game.{Game}
 use Rattle.round.specs.State.{State, Happening}
 use Rattle.round.specs.History.{Among}
-use Rattle.round.specs.Rounds.{Played, allDone, again, turn, pass, Round, instant}
+use Rattle.round.specs.Actions.{atStart}
+use Rattle.round.specs.Rounds.{Played, followedBy, allDone, again, mostPasses, listedIn, turn, pass, Round, instant, round, historyOf}
 
 -- P holds of each of some routines
 abbrev pub All : (ℕ → Type 0) → List ℕ → Type 0
 All P [] = Unit {0}
 All P (r ∷ rs) = P r × All P rs
 
-pub all-each : (P : ℕ → Type 0) → ((r : ℕ) → P r) → (rs : List ℕ) → All P rs
-all-each P h [] = tt
-all-each P h (r ∷ rs) = (h r, all-each P h rs)
-
 pub among-all : (P : ℕ → Type 0) (r : ℕ) (rs : List ℕ) → All P rs → Among r rs → P r
 among-all P r [] a h = absurd h
 among-all P r (q ∷ qs) a (inl e) = rw e (a .0)
 among-all P r (q ∷ qs) a (inr h) = among-all P r qs (a .1) h
 
-pub each-among : (P : ℕ → Type 0) (rs : List ℕ) → ((r : ℕ) → Among r rs → P r) → All P rs
+each-among : (P : ℕ → Type 0) (rs : List ℕ) → ((r : ℕ) → Among r rs → P r) → All P rs
 each-among P [] h = tt
 each-among P (r ∷ rs) h = (h r (inl refl), each-among P rs (λ q k. h q (inr k)))
 
@@ -32,27 +31,64 @@ abbrev pub Distinct : List ℕ → Type 0
 Distinct [] = Unit {0}
 Distinct (r ∷ rs) = (Among r rs → ⊥) × Distinct rs
 
+pub all-among : (P : ℕ → Type 0) (rs : List ℕ) → All P rs → All (λ r. P r × Among r rs) rs
+all-among P rs all = each-among (λ r. P r × Among r rs) rs (λ r h. (among-all P r rs all h, h))
+
+module _
+    (Claim : State → Played → Type 0) (none : (s : State) → Claim s (record { state = s; told = []; turns = [] }))
+    (both : (s : State) (p q : Played) → Claim s p → Claim (p .state) q → Claim s (followedBy p q)) (book : List ℕ)
+    (Listed : ℕ → Type 0) (turns : (r : ℕ) (s : State) → Listed r → Claim s (turn book r s))
+  where
+    pass-by : (rs : List ℕ) → All Listed rs → (s : State) → Claim s (pass book rs s)
+    unfolding pass
+    pass-by [] l s = none s
+    pass-by (r ∷ rs) l s = let first = turn book r s in both s first _ (turns r s (l .0)) (pass-by rs (l .1) (first .state))
+
+    pub instant-by :
+        ((s : State) (p : Played) → Claim (again s) p → Claim s p) → (n : ℕ) (rs : List ℕ) → All Listed rs → (s : State) →
+        Claim s (instant book n rs s .played)
+    unfolding instant
+    instant-by agains zero rs l s = none s
+    instant-by agains (suc n) rs l s =
+        let first = pass book rs s in
+        let others = instant book n rs (again (first .state)) .played in
+        by-test (λ (d : Round). Claim s (d .played)) (allDone (first .turns)) (λ h. pass-by rs l s)
+        (λ h. both s first others (pass-by rs l s) (agains (first .state) others (instant-by agains n rs l (again (first .state)))))
+
 module _
     (Claim : State → List Happening → State → Type 0) (none : (s : State) → Claim s [] s)
     (both : (s u v : State) (a b : List Happening) → Claim s a u → Claim u b v → Claim s (a ++ b) v) (book : List ℕ)
-    (Listed : ℕ → Type 0) (turns : (r : ℕ) → Listed r → (s : State) → Claim s (turn book r s .told) (turn book r s .state))
   where
-    abbrev OfPlayed : State → Played → Type 0
-    OfPlayed s p = Claim s (p .told) (p .state)
+    -- from the states that turns of the listed routines keep
+    module _
+        (Ok : State → Type 0) (Listed : ℕ → Type 0) (stays : (r : ℕ) (s : State) → Listed r → Ok s → Ok (turn book r s .state))
+        (turns : (r : ℕ) (s : State) → Listed r → Ok s → Claim s (turn book r s .told) (turn book r s .state))
+      where
+        abbrev Kept : State → Played → Type 0
+        Kept s p = Ok s → Ok (p .state) × Claim s (p .told) (p .state)
 
-    pub pass-along : (rs : List ℕ) → All Listed rs → (s : State) → OfPlayed s (pass book rs s)
-    unfolding pass
-    pass-along [] l s = none s
-    pass-along (r ∷ rs) l s =
-        let first = turn book r s in both _ _ _ _ _ (turns r (l .0) s) (pass-along rs (l .1) (first .state))
+        kept-both : (s : State) (p q : Played) → Kept s p → Kept (p .state) q → Kept s (followedBy p q)
+        kept-both s p q first second ok =
+            let (between, one) = first ok in
+            let (last, two) = second between in
+            (last, both _ _ _ _ _ one two)
 
-    pub instant-along :
-        ((s : State) → Claim s [] (again s)) → (n : ℕ) (rs : List ℕ) → All Listed rs → (s : State) →
-        OfPlayed s (instant book n rs s .played)
-    unfolding instant
-    instant-along agains zero rs l s = none s
-    instant-along agains (suc n) rs l s =
-        let first = pass book rs s in
-        let others = instant-along agains n rs l (again (first .state)) in
-        by-test (λ (d : Round). OfPlayed s (d .played)) (allDone (first .turns)) (λ h. pass-along rs l s)
-        (λ h. both _ _ _ _ _ (pass-along rs l s) (both _ _ _ [] _ (agains (first .state)) others))
+        pub pass-along : (rs : List ℕ) → All Listed rs → (s : State) → Kept s (pass book rs s)
+        pass-along = pass-by Kept (λ s ok. (ok, none s)) kept-both book Listed (λ r s l ok. (stays r s l ok, turns r s l ok))
+
+        pub instant-along :
+            ((s : State) → Ok s → Ok (again s)) → ((s : State) → Claim s [] (again s)) → (n : ℕ) (rs : List ℕ) → All Listed rs →
+            (s : State) → Kept s (instant book n rs s .played)
+        instant-along staysAgain agains =
+            instant-by Kept (λ s ok. (ok, none s)) kept-both book Listed (λ r s l ok. (stays r s l ok, turns r s l ok)) (λ s p rest ok.
+            let (last, two) = rest (staysAgain s ok) in
+            (last, both _ _ _ [] _ (agains s) two))
+
+    -- what holds of every turn, whichever routines are listed
+    pub round-always :
+        ((r : ℕ) (s : State) → Claim s (turn book r s .told) (turn book r s .state)) → ((s : State) → Claim s [] (again s)) →
+        (g : Game) → Claim (atStart g) (historyOf book g) (round book g .played .state)
+    unfolding round
+    round-always turns agains g =
+        instant-along (λ s. Unit {0}) (λ r. Unit {0}) (λ r s l ok. tt) (λ r s l ok. turns r s) (λ s ok. tt) agains mostPasses (listedIn g)
+        (each-among (λ r. Unit {0}) (listedIn g) (λ r h. tt)) (atStart g) tt .1

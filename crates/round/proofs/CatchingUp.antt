@@ -13,7 +13,7 @@ use Rattle.round.specs.Rounds.{Played, again, turn, pass}
 use Rattle.round.specs.Demand.{Comes, IsPast, here, later, CatchesUp}
 use Rattle.round.specs.Whole.{isMiss}
 use Rattle.round.proofs.Along.{All}
-use Rattle.round.proofs.TurnLaws.{isGoing, moves, Waits, ToBeContinued, TurnLaws}
+use Rattle.round.proofs.TurnLaws.{isGoing, moves, Turned, others-going, Waits, waits-too, ToBeContinued, TurnLaws}
 use Rattle.round.proofs.Histories.{moves-append, somewhere-append, nothing-comes}
 use Rattle.round.proofs.Waiting.{by-flag, clash, passed}
 use Rattle.round.proofs.Closing.{there-again, waits-again}
@@ -114,14 +114,17 @@ module _ {book : List ℕ} {Listed : ℕ → Type 0} {Ok : State → Type 0} (la
         IsPast q p t (turn book r s .told ++ b)
     owed-other q n few f p t j g w c =
         past-second (turn book r s .told)
-        (f q p t j (laws .others r q s l k n ∙ g) (laws .othersWait r q p t s l k n w) (came c))
+        (f q p t j (others-going turned q n ∙ g) (waits-too book q p t s _ (turned .sits .others q n .position) w) (came c))
       where
+        turned : Turned r s (turn book r s .told) (turn book r s .state)
+        turned = laws .turned r s l k
+
         came :
             (isThere s t ≡ true) ⊎ Somewhere (Comes t) (turn book r s .told ++ b) →
             (isThere (turn book r s .state) t ≡ true) ⊎ Somewhere (Comes t) b
-        came (inl h) = inl (laws .keeps r s t l k h)
+        came (inl h) = inl (turned .keeps t h)
         came (inr x) =
-            elim (somewhere-append (Comes t) (turn book r s .told) b x) [ inl y ↦ inl (laws .brings r s t l k few y) | inr y ↦ inr y ]
+            elim (somewhere-append (Comes t) (turn book r s .told) b x) [ inl y ↦ inl (turned .brings t few y) | inr y ↦ inr y ]
 
     owed-turn :
         s .eoi ≡ false → turn book r s .state .tooMany ≡ false → Owed book L (turn book r s .state) b →
@@ -161,7 +164,7 @@ module _ {book : List ℕ} {Listed : ℕ → Type 0} {Ok : State → Type 0} (la
       let first = turn book r s in
       let ok = laws .stays r s (a .0) k in
       let rest = pass book l (first .state) .told in
-      let (g, d) = caught-pass l (a .1) (λ q i. sub q (inr i)) (first .state) ok (laws .eoi r s (a .0) k ∙ e) few b f c in
+      let (g, d) = caught-pass l (a .1) (λ q i. sub q (inr i)) (first .state) ok (laws .turned r s (a .0) k .eoi ∙ e) few b f c in
       let i = sub r (inl refl) in
       subst (λ (h : List Happening). Owed book L s h × Caught h) (sym (append-assoc (first .told) rest b)) (
         owed-turn r s (a .0) k i (rest ++ b) e (passed laws l (a .1) (first .state) ok .few few) g,

@@ -14,16 +14,16 @@ use Rattle.book.specs.Book.{countsOf, routineSteps}
 use Rattle.round.specs.declared.Position.{Position}
 use Rattle.round.specs.declared.Effect.{Effect}
 use Rattle.round.specs.declared.Effect.the-variants.{Mark}
-use Rattle.round.specs.State.{State, Thing, Happening, gave, completed, isThere}
+use Rattle.round.specs.State.{State, Thing, signal, end, number, Happening, gave, completed, isThere}
 use Rattle.round.specs.History.{howMany, Somewhere}
 use Rattle.round.specs.Ticks.{effectOn}
 use Rattle.round.specs.Rounds.{ticks, ticksOf}
-use Rattle.round.specs.Demand.{givesSignal, Comes}
+use Rattle.round.specs.Demand.{givesSignal, endsRoutine, Comes}
 use Rattle.round.proofs.Acts.{Right, Says}
 use Rattle.round.proofs.Stepping.{ticks-along}
 use Rattle.round.proofs.Effects.{Untouched, untouched-same, untouched-then, effect-untouched, Ungiven, ungiven-same, effect-ungiven}
 use Rattle.round.proofs.Effects.{same-things, Gave, give, give-number}
-use Rattle.round.proofs.Histories.{many-append, stops-none, in-either, gift-given}
+use Rattle.round.proofs.Histories.{many-append, stops-none, in-either, gift-given, end-ends}
 pub use Rattle.round.proofs.Histories.{somewhere-append, none-told, isGift}
 use Rattle.round.proofs.Seats.{SameSeats}
 
@@ -38,6 +38,14 @@ pub record Carries (s : State) (told : List Happening) (u : State) : Type 0 wher
   pub few : u .tooMany ≡ false → s .tooMany ≡ false
   pub unmoved : howMany givesSignal told ≡ 0 → u .moved ≡ s .moved
   pub moved : 0 < howMany givesSignal told → u .moved ≡ true
+
+-- where no end is told, whatever comes is there
+pub all-brought :
+    {s u : State} {told : List Happening} → Carries s told u → length (s .present) ≡ mostSignals → howMany endsRoutine told ≡ 0 →
+    (t : Thing) → u .tooMany ≡ false → Somewhere (Comes t) told → isThere u t ≡ true
+all-brought c l none (signal e) h k = c .brings l (signal e) refl h k
+all-brought {told = told} c l none (end q) h k = absurd (none-told endsRoutine (Comes (end q)) end-ends told none k)
+all-brought c l none (number e n) h k = c .brings l (number e n) refl h k
 
 -- no signal is given
 carries-none : {s u : State} (told : List Happening) → howMany givesSignal told ≡ 0 → Untouched s u → Ungiven s u → Carries s told u
@@ -80,7 +88,7 @@ carries-then s u v a b c d =
     }
 
 -- what came by a signal given is there
-pub come-there :
+come-there :
     {s u : State} (t : Thing) {e k : ℕ} → e < length (s .present) → Gave s e k u → u .tooMany ≡ false → Comes t (gave e k) →
     isThere u t ≡ true
 come-there t l b h Comes.signalGiven = b .signalThere l

@@ -29,9 +29,9 @@ use Rattle.round.specs.State.{State, Thing, signal, end, number, Happeni
 use Rattle.round.specs.State.{numberAt, isThere}
 use Rattle.round.specs.Actions.{atStart}
 use Rattle.round.specs.Ticks.{Tick, fresh, countAt, onward, tries, waitsFor, tickOf, tickAt, tick, mostNumbers, effectOn}
-use Rattle.round.specs.Rounds.{Ticks, follow, ticks, mostPasses, listedIn, ticksOf, turn, round, historyOf}
+use Rattle.round.specs.Rounds.{Ticks, follow, ticks, ticksOf, turn, round, historyOf}
 use Rattle.round.specs.Whole.{Contents, madeBy, contentsAfter}
-use Rattle.round.proofs.Along.{all-each, instant-along}
+use Rattle.round.proofs.Along.{round-always}
 use Rattle.round.proofs.AfterTurn.{end-keeps, turn-by}
 use Rattle.round.proofs.Demand.{none-lost}
 
@@ -180,7 +180,5 @@ module _ (book : List ℕ) where
   pub contents-made :
       (a : Accepted book) (g : Game) → Sized g → Fits book g →
       contentsOf (round book g .played .state) ≡ contentsAfter book (historyOf book g) (g .counters, [])
-  unfolding round atStart
-  contents-made a g z f =
-      instant-along Makes makes-same makes-both book (λ r. Unit {0}) (λ r listed. turn-makes r) makes-same mostPasses (listedIn g)
-      (all-each (λ r. Unit {0}) (λ r. tt) (listedIn g)) (atStart g) (none-lost book a g z f) .1
+  unfolding atStart
+  contents-made a g z f = round-always Makes makes-same makes-both book turn-makes makes-same g (none-lost book a g z f) .1

@@ -41,7 +41,7 @@ use Rattle.round.proofs.Actions.{at-start-listed}
 use Rattle.round.proofs.Sound.{Sound}
 use Rattle.round.proofs.Coming.{turn-untouched}
 use Rattle.round.proofs.AfterTurn.{taken, turn-over, turn-taken, routine-after, position-after, after-going}
-use Rattle.round.proofs.Moving.{turn-keeps}
+use Rattle.round.proofs.Turned.{turn-turned}
 use Rattle.round.proofs.Again.{first-tick}
 use Rattle.round.proofs.Waiting.{by-flag, clash}
 use Rattle.round.proofs.FirstTurn.{Keeps, Completes, standsFirst, Due, due-seat, round-of-one}
@@ -150,7 +150,7 @@ module _
         own : (s : State) → Sound book s → Claim s (turn book r s .told) (turn book r s .state)
         own s ok m =
             let below = among-all (λ q. q < routinesOf book) r (listedIn g) (at-start-listed book g (a .laid .counts) z f) inside in
-            let none = was-missing s (turn book r s .state) (λ t. turn-keeps book a r s t below ok) timed m in (
+            let none = was-missing s (turn book r s .state) (turn-turned book a r s below ok .keeps) timed m in (
               none,
               ⊎-elim (λ due. stays-here s due none)
                   (λ h.

@@ -66,8 +66,8 @@ module _ (book : List ℕ) (a : Accepted book) (g : Game) (z : Sized g) (f : Fit
       (r : ℕ) → Among r (listedIn g) → routineAt (atStart g .game) r .suspended ≡ false →
       (routineAt (last .game) r .stage ≡ rested) ⊎ (routineAt (last .game) r .stage ≡ ended)
   rested-or-ended r i awake =
-      let kept = round-keeps book a g z f in
-      let fits = kept .sound .fits in
+      let (sound, kept) = round-keeps book a g z f in
+      let fits = sound .fits in
       let (k, l, e) = among-listed book g a z f r i in
       let lower : r < routinesOf book = subst (λ q. q < routinesOf book) e (start-sound .fits .entriesInRange .0 k l) in
       let here : In (last .game .listed) r = rw (kept .listed) (k, l, e) in

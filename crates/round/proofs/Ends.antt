@@ -25,20 +25,19 @@ use Rattle.round.specs.declared.Position.{Position}
 use Rattle.round.specs.State.{State, Happening, gave, ended, missing, past, marked, completed}
 use Rattle.round.specs.History.{howMany, Somewhere, Among}
 use Rattle.round.specs.Actions.{kept, atStart}
-use Rattle.round.specs.Rounds.{stageAfter, again, mostPasses, listedIn, ticksOf, turn, round, historyOf}
+use Rattle.round.specs.Rounds.{stageAfter, again, listedIn, ticksOf, turn, round, historyOf}
 use Rattle.round.specs.Demand.{endsRoutine}
 use Rattle.round.proofs.Acts.{Stops, ends, rests, misses, continues}
 use Rattle.round.proofs.Counting.{sumOver, others-sum, one}
 use Rattle.round.proofs.Histories.{many-append, none-told}
-use Rattle.round.proofs.Along.{among-all, each-among, Distinct, instant-along}
-use Rattle.round.proofs.Actions.{at-start-listed}
+use Rattle.round.proofs.Along.{Distinct}
+use Rattle.round.proofs.After.{round-along}
 use Rattle.round.proofs.Sound.{Sound}
-use Rattle.round.proofs.Starting.{listed-distinct, among-listed, listed-stage, at-start-sound}
+use Rattle.round.proofs.Starting.{listed-distinct, among-listed, listed-stage}
 use Rattle.round.proofs.Coming.{turn-untouched}
 use Rattle.round.proofs.AfterTurn.{going-parts, turn-by, routine-after}
 use Rattle.round.proofs.Outcomes.{turn-shape}
-use Rattle.round.proofs.Staying.{turn-sound, again-sound}
-use Rattle.round.proofs.Moving.{turn-seats}
+use Rattle.round.proofs.Turned.{turn-turned}
 
 -- sums over some routines, of which r alone counts n more by g than by f
 module _ (f g : ℕ → ℕ) (r : ℕ) (others : (q : ℕ) → q ≢ r → g q ≡ f q) where
@@ -157,42 +156,34 @@ module _ (book : List ℕ) (a : Accepted book) (g : Game) (z : Sized g) (f : Fit
     total s = sumOver (counted test s) (listedIn g)
 
     abbrev Claim : State → List Happening → State → Type 0
-    Claim s told u = Sound book s → Sound book u × (howMany test told + total s ≡ total u)
+    Claim s told u = howMany test told + total s ≡ total u
 
     claim-none : (s : State) → Claim s [] s
     unfolding howMany
-    claim-none s ok = (ok, omega arith)
+    claim-none s = omega arith
 
     claim-both : (s u v : State) (b c : List Happening) → Claim s b u → Claim u c v → Claim s (b ++ c) v
-    claim-both s u v b c first second ok =
-        let (between, one) = first ok in
-        let (sound, two) = second between in
-        (sound, omega (arith, many-append test b c))
+    claim-both s u v b c one two = omega (arith, many-append test b c)
 
     claim-turn :
-        (r : ℕ) → (r < routinesOf book) × Among r (listedIn g) → (s : State) → Claim s (turn book r s .told) (turn book r s .state)
-    claim-turn r (l, inside) s ok =
+        (r : ℕ) (s : State) → (r < routinesOf book) × Among r (listedIn g) → Sound book s →
+        Claim s (turn book r s .told) (turn book r s .state)
+    claim-turn r s (l, inside) ok =
         let u = turn book r s .state in
         let others : (q : ℕ) → q ≢ r → counted test u q ≡ counted test s q =
-        λ q n. ap (λ k. one (test (ended q) && eqb k stage.ended)) (turn-seats book a r q s l ok n .stage) in
-        (turn-sound book a r s l ok, own-sum (counted test s) (counted test u) r others _ (own-told r s l) (listedIn g) distinct inside)
+        λ q n. ap (λ k. one (test (ended q) && eqb k stage.ended)) (turn-turned book a r s l ok .sits .others q n .stage) in
+        own-sum (counted test s) (counted test u) r others _ (own-told r s l) (listedIn g) distinct inside
 
     claim-again : (s : State) → Claim s [] (again s)
     unfolding howMany
-    claim-again s ok = (again-sound s ok, omega arith)
+    claim-again s = omega arith
 
     -- at the start none of them is in stage 3
     round-told : howMany test (historyOf book g) ≡ total back
-    unfolding round
     round-told =
-        let L = listedIn g in
-        let Below : ℕ → Type 0 = λ r. r < routinesOf book in
-        let below = at-start-listed book g (a .laid .counts) z f in
-        let told =
-        instant-along Claim claim-none claim-both book (λ r. Below r × Among r L) claim-turn claim-again mostPasses L
-        (each-among (λ r. Below r × Among r L) L (λ r h. (among-all Below r L below h, h))) (atStart g) (at-start-sound book g a z f) .1 in
+        let told = round-along book a g z f Claim claim-none claim-both claim-turn claim-again in
         let none =
-        none-sum (counted test (atStart g)) L
+        none-sum (counted test (atStart g)) (listedIn g)
         (λ r h. rw (listed-stage book g a z f r (among-listed book g a z f r h), and-false (test (ended r)))) in
         omega (arith, told)
 

@@ -19,19 +19,17 @@ use Rattle.round.specs.declared.Position.{Position}
 use Rattle.round.specs.State.{State, Thing, Happening, missing, completed, isThere}
 use Rattle.round.specs.History.{howMany, Somewhere, Among}
 use Rattle.round.specs.Actions.{positionOf, atStart}
-use Rattle.round.specs.Rounds.{again, mostPasses, listedIn, turn, round, historyOf}
+use Rattle.round.specs.Rounds.{again, listedIn, turn, round, historyOf}
 use Rattle.round.specs.Demand.{Comes, IsPast}
 use Rattle.round.proofs.Acts.{Asks}
 use Rattle.round.proofs.TurnLaws.{isGoing, Waits}
 use Rattle.round.proofs.Histories.{somewhere-append, in-first, in-second, nothing-comes}
-use Rattle.round.proofs.Along.{instant-along}
-use Rattle.round.proofs.Actions.{at-start-listed}
+use Rattle.round.proofs.After.{round-along}
 use Rattle.round.proofs.Sound.{Sound}
-use Rattle.round.proofs.Starting.{at-start-sound, among-listed, listed-stage}
+use Rattle.round.proofs.Starting.{among-listed, listed-stage}
 use Rattle.round.proofs.Seats.{SameSeat, same-seat}
 use Rattle.round.proofs.AfterTurn.{going-parts}
-use Rattle.round.proofs.Staying.{turn-sound, again-sound}
-use Rattle.round.proofs.Moving.{turn-seats, turn-keeps}
+use Rattle.round.proofs.Turned.{turn-turned}
 use Rattle.round.proofs.Again.{misses-again, goes-past}
 use Rattle.round.proofs.Waiting.{by-flag}
 use Rattle.round.proofs.Closing.{there-again}
@@ -89,29 +87,17 @@ module _ (book : List ℕ) (a : Accepted book) (g : Game) (z : Sized g) (f : Fit
       (s u : State) (told : List Happening) → SameSeat (routineAt (u .game) r) (routineAt (s .game) r) → Keeps s u → Claim s told u)
       (own : (s : State) → Sound book s → Claim s (turn book r s .told) (turn book r s .state))
     where
-      abbrev OfSound : State → List Happening → State → Type 0
-      OfSound s told u = Sound book s → Sound book u × Claim s told u
-
-      each-turn : (q : ℕ) → q < routinesOf book → (s : State) → OfSound s (turn book q s .told) (turn book q s .state)
-      each-turn q l s ok = (
-        turn-sound book a q s l ok,
-        elim (ℕ-discrete r q) [
-          | yes e ↦ subst (λ i. Claim s (turn book i s .told) (turn book i s .state)) e (own s ok)
-          | no n ↦ others s _ _ (turn-seats book a q r s l ok n) (λ t. turn-keeps book a q s t l ok)
-        ],
-      )
+      each-turn :
+          (q : ℕ) (s : State) → q < routinesOf book → Sound book s → Claim s (turn book q s .told) (turn book q s .state)
+      each-turn q s l ok = elim (ℕ-discrete r q) [
+        | yes e ↦ subst (λ i. Claim s (turn book i s .told) (turn book i s .state)) e (own s ok)
+        | no n ↦ let turned = turn-turned book a q s l ok in others s _ _ (turned .sits .others r n) (turned .keeps)
+      ]
 
       pub round-of-one : Claim (atStart g) (historyOf book g) back
-      unfolding round
       round-of-one =
-          instant-along OfSound (λ s ok. (ok, others s s [] same-seat (λ t h. h)))
-          (λ s u v b c first second ok.
-          let (between, one) = first ok in
-          let (sound, two) = second between in
-          (sound, both s u v b c one two))
-          book (λ q. q < routinesOf book) each-turn
-          (λ s ok. (again-sound s ok, others s (again s) [] same-seat (λ t h. there-again s t ∙ h)))
-          mostPasses (listedIn g) (at-start-listed book g (a .laid .counts) z f) (atStart g) (at-start-sound book g a z f) .1
+          round-along book a g z f Claim (λ s. others s s [] same-seat (λ t h. h)) both (λ q s l. each-turn q s (l .0))
+          (λ s. others s (again s) [] same-seat (λ t h. there-again s t ∙ h))
 
   module _ (inside : Among r (listedIn g)) (awake : routineAt (atStart g .game) r .suspended ≡ false) where
     pub due-first : Due g r (atStart g)

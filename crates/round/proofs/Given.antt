@@ -14,7 +14,6 @@ use Rattle.numbers.proofs.Tests.{by-test}
 use Rattle.kinds.specs.declared.Counts.{Counts}
 use Rattle.book.specs.Book.{countsOf, routineSteps}
 use Rattle.game.specs.declared.Game.{Game}
-use Rattle.game.specs.Lines.{entriesOf}
 use Rattle.round.specs.declared.Position.{Position}
 use Rattle.round.specs.declared.Effect.{Effect}
 use Rattle.round.specs.declared.Effect.the-variants.{GiveNumber}
@@ -22,9 +21,9 @@ use Rattle.round.specs.State.{State, completed, Happening, gave, numbers
 use Rattle.round.specs.History.{howMany}
 use Rattle.round.specs.Actions.{atStart}
 use Rattle.round.specs.Ticks.{mostNumbers, effectOn}
-use Rattle.round.specs.Rounds.{mostPasses, ticksOf, turn, instant, round}
+use Rattle.round.specs.Rounds.{ticksOf, turn, round}
 use Rattle.round.specs.Tells.{givesNumber, numbersGiven}
-use Rattle.round.proofs.Along.{all-each, instant-along}
+use Rattle.round.proofs.Along.{round-always}
 use Rattle.round.proofs.Acts.{Right, isGiving, Says}
 use Rattle.round.proofs.Histories.{many-append, stops-none}
 use Rattle.round.proofs.Stepping.{ticks-along}
@@ -106,18 +105,9 @@ module _ (book : List ℕ) where
       turn-by book r s (λ p. Gives s (p .told) (p .state)) (λ h. gives-same s)
       (λ h n g. end-keeps (GivenIn (n + numbersGiven (t .told))) (t .ending) r _ (λ k. k) (all _ _ s n g))
 
-  -- whichever routines are listed
-  instant-gives :
-      (n : ℕ) (rs : List ℕ) (s : State) → Gives s (instant book n rs s .played .told) (instant book n rs s .played .state)
-  unfolding howMany
-  instant-gives n rs =
-      instant-along Gives gives-same gives-then book (λ r. Unit {0}) (λ r listed. turn-gives r) (λ s. none refl) n rs
-      (all-each (λ r. Unit {0}) (λ r. tt) rs)
-
 pub too-many :
     (book : List ℕ) (g : Game) → round book g .played .state .tooMany ≡ ltb mostNumbers (numbersGiven (round book g .played .told))
-unfolding round atStart
+unfolding atStart howMany
 too-many book g =
-    let s = atStart g in
-    let h = instant-gives book mostPasses (entriesOf (s .game .listed)) s 0 (few (omega arith) refl) in
-    given-test h ∙ rw zero-add
+    let all = round-always Gives gives-same gives-then book (turn-gives book) (λ s. none refl) g in
+    given-test (all 0 (few (omega arith) refl)) ∙ rw zero-add

@@ -6,8 +6,7 @@ use Rattle.book.specs.Accepted.{Accepted}
 use Rattle.round.proofs.Sound.{Sound}
 use Rattle.round.proofs.TurnLaws.{TurnLaws}
 use Rattle.round.proofs.Staying.{turn-sound, again-sound}
-use Rattle.round.proofs.Moving.{turn-eoi, turn-others, turn-othersWait, turn-keeps, turn-brings, turn-came, turn-few}
-use Rattle.round.proofs.Moving.{turn-unmoved, turn-moved}
+use Rattle.round.proofs.Turned.{turn-turned}
 use Rattle.round.proofs.AfterTurn.{turn-over}
 use Rattle.round.proofs.Outcomes.{turn-out, turn-continues, turn-calm}
 use Rattle.round.proofs.Again.{misses-again, turn-unchanged, goes-past}
@@ -17,15 +16,7 @@ turn-laws book a =
     record {
       stays = turn-sound book a;
       staysAgain = again-sound;
-      eoi = turn-eoi book a;
-      others = turn-others book a;
-      othersWait = turn-othersWait book a;
-      keeps = turn-keeps book a;
-      brings = turn-brings book a;
-      came = turn-came book a;
-      few = turn-few book a;
-      unmoved = turn-unmoved book a;
-      moved = turn-moved book a;
+      turned = turn-turned book a;
       over = λ r s l ok. turn-over book r s;
       out = λ r s l ok. turn-out book a r s l;
       continues = λ r s l ok. turn-continues book a r s l;

@@ -35,7 +35,6 @@ pub mod Coming
 pub mod Staying
 pub mod Outcomes
 pub mod Turned
-pub mod Moving
 pub mod Again
 pub mod Lawful
 -- the passes, from the laws of turns

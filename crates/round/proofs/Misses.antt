@@ -1,10 +1,9 @@
 -- A round's history tells a miss for each turn that came to a step whose thing was missing, and no other. The steps of a turn that went on
 -- tell none, and the last one tells one exactly where it halts the turn for that reason; then turn by turn and pass by pass.
-use Prim.Native.Nat.{ℕ, zero, suc, _+_, _<_}
+use Prim.Native.Nat.{ℕ, _+_, _<_}
 use mathlib.Core.Path.{_≡_, refl, ap, _∙_}
 use mathlib.Core.List.{List, [], _∷_, _++_}
 use native.Mathlib.Omega.{arith}
-use Rattle.numbers.proofs.Tests.{by-test}
 use Rattle.kinds.specs.declared.Counts.{Counts}
 use Rattle.book.specs.Layout.{routinesOf}
 use Rattle.book.specs.Accepted.{Accepted}
@@ -17,11 +16,10 @@ use Rattle.round.specs.declared.Position.{Position}
 use Rattle.round.specs.State.{State, Happening}
 use Rattle.round.specs.History.{howMany}
 use Rattle.round.specs.Actions.{atStart}
-use Rattle.round.specs.Rounds.{Turn, passedOver, took, Played, followedBy, allDone, again, mostPasses, listedIn, turn}
-use Rattle.round.specs.Rounds.{pass, Round, instant, round, historyOf}
+use Rattle.round.specs.Rounds.{Turn, passedOver, took, Played, followedBy, mostPasses, listedIn, turn, round, historyOf}
 use Rattle.round.specs.Whole.{isMiss, missesOf}
 use Rattle.round.proofs.Acts.{Stops, ends, rests, misses, continues}
-use Rattle.round.proofs.Along.{All}
+use Rattle.round.proofs.Along.{instant-by}
 use Rattle.round.proofs.Actions.{at-start-listed}
 use Rattle.round.proofs.Histories.{many-append}
 use Rattle.round.proofs.AfterTurn.{turn-by}
@@ -54,31 +52,16 @@ stops-miss (misses a m c) = refl
 stops-miss (continues a m c) = refl
 
 module _ (book : List ℕ) (a : Accepted book) where
-  turn-misses : (r : ℕ) → r < routinesOf book → (s : State) → TellsMisses (turn book r s)
+  turn-misses : (r : ℕ) (s : State) → r < routinesOf book → TellsMisses (turn book r s)
   unfolding howMany missesOf
-  turn-misses r l s =
+  turn-misses r s l =
       let shape = turn-shape book a r s l in
       let told = ap (howMany isMiss) (shape .history) ∙ many-append isMiss (shape .before) (shape .lastTold) in
       turn-by book r s TellsMisses (λ h. refl) (λ h. omega (arith, shape .noMiss, stops-miss (shape .stops)))
 
-  pass-misses : (rs : List ℕ) → All (λ r. r < routinesOf book) rs → (s : State) → TellsMisses (pass book rs s)
-  unfolding pass howMany missesOf
-  pass-misses [] l s = refl
-  pass-misses (r ∷ rs) l s =
-      let first = turn book r s in
-      misses-both first (pass book rs (first .state)) (turn-misses r (l .0) s) (pass-misses rs (l .1) (first .state))
-
-  instant-misses :
-      (n : ℕ) (rs : List ℕ) → All (λ r. r < routinesOf book) rs → (s : State) → TellsMisses (instant book n rs s .played)
-  unfolding instant howMany missesOf
-  instant-misses zero rs l s = refl
-  instant-misses (suc n) rs l s =
-      let first = pass book rs s in
-      let others = instant book n rs (again (first .state)) in
-      by-test (λ (d : Round). TellsMisses (d .played)) (allDone (first .turns)) (λ h. pass-misses rs l s)
-      (λ h. misses-both first (others .played) (pass-misses rs l s) (instant-misses n rs l (again (first .state))))
-
   pub misses-told :
       (g : Game) → Sized g → Fits book g → howMany isMiss (historyOf book g) ≡ missesOf (round book g .played .turns)
-  unfolding round
-  misses-told g z f = instant-misses mostPasses (listedIn g) (at-start-listed book g (a .laid .counts) z f) (atStart g)
+  unfolding round howMany missesOf
+  misses-told g z f =
+      instant-by (λ s p. TellsMisses p) (λ s. refl) (λ s. misses-both) book (λ r. r < routinesOf book) turn-misses (λ s p h. h) mostPasses
+      (listedIn g) (at-start-listed book g (a .laid .counts) z f) (atStart g)

@@ -31,7 +31,7 @@ use Rattle.round.proofs.Coming.{turn-untouched}
 use Rattle.round.proofs.Sound.{Sound}
 use Rattle.round.proofs.TurnLaws.{isGoing}
 use Rattle.round.proofs.AfterTurn.{turn-by, position-after, after-going}
-use Rattle.round.proofs.Moving.{turn-seats}
+use Rattle.round.proofs.Turned.{turn-turned}
 
 -- what is left behind steps that end so, n being left at the position reached: a turn that is to be continued goes on from there in this
 -- round, and no other does
@@ -46,7 +46,7 @@ worth left r s = if isGoing s r then left r (positionOf (routineAt (s .game) r))
 pub turn-spares :
     (book : List ℕ) → Accepted book → (left : ℕ → Position → ℕ) (r q : ℕ) (s : State) → r < routinesOf book → Sound book s → q ≢ r →
     worth left q (turn book r s .state) ≡ worth left q s
-turn-spares book a left r q s l ok n = let e = turn-seats book a r q s l ok n in cc (e .stage, e .suspended, e .position)
+turn-spares book a left r q s l ok n = let e = turn-turned book a r s l ok .sits .others q n in cc (e .stage, e .suspended, e .position)
 
 module _
     (book : List ℕ) (test : Happening → Bool) (left : ℕ → Position → ℕ) (r : ℕ)

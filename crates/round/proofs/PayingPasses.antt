@@ -14,7 +14,7 @@ use Rattle.round.specs.History.{howMany, Among}
 use Rattle.round.specs.Rounds.{again, turn, pass, instant}
 use Rattle.round.proofs.Counting.{sumOver, over-le}
 use Rattle.round.proofs.Histories.{many-append}
-use Rattle.round.proofs.Along.{All, among-all, each-among, pass-along, instant-along}
+use Rattle.round.proofs.Along.{All, all-among, pass-along, instant-along}
 
 -- what some routines are worth together
 abbrev pub total : (ℕ → State → ℕ) → List ℕ → State → ℕ
@@ -52,41 +52,35 @@ module _
 
     module _ (L : List ℕ) where
       abbrev Claim : State → List Happening → State → Type 0
-      Claim s told u = Ok s → Ok u × (howMany test told + total worth L u ≤ total worth L s)
+      Claim s told u = howMany test told + total worth L u ≤ total worth L s
 
       abbrev Listed : ℕ → Type 0
       Listed r = (r < routinesOf book) × Among r L
 
-      all-listed : All (λ r. r < routinesOf book) L → All Listed L
-      all-listed all = each-among Listed L (λ r h. (among-all (λ q. q < routinesOf book) r L all h, h))
-
       claim-none : (s : State) → Claim s [] s
       unfolding howMany
-      claim-none s ok = (ok, omega arith)
+      claim-none s = omega arith
 
       claim-both : (s u v : State) (a b : List Happening) → Claim s a u → Claim u b v → Claim s (a ++ b) v
-      claim-both s u v a b first second ok =
-          let one = first ok in
-          let two = second (one .0) in
-          (two .0, omega (arith, many-append test a b, one .1, two .1))
+      claim-both s u v a b first second = omega (arith, many-append test a b)
 
-      claim-turn : (r : ℕ) → Listed r → (s : State) → Claim s (turn book r s .told) (turn book r s .state)
-      claim-turn r l s ok = (stays r s (l .0) ok, total-pays r s (l .0) ok L (l .1))
+      claim-turn : (r : ℕ) (s : State) → Listed r → Ok s → Claim s (turn book r s .told) (turn book r s .state)
+      claim-turn r s l ok = total-pays r s (l .0) ok L (l .1)
 
       claim-again : (s : State) → Claim s [] (again s)
       unfolding howMany
-      claim-again s ok = (again-stays s ok, omega (arith, total-again worth agains L s))
+      claim-again s = omega (arith, total-again worth agains L s)
 
     pub pass-pays :
         (L : List ℕ) → All (λ r. r < routinesOf book) L → (s : State) → Ok s →
         howMany test (pass book L s .told) + total worth L (pass book L s .state) ≤ total worth L s
     pass-pays L all s ok =
-        let each = all-listed L all in
-        pass-along (Claim L) (claim-none L) (claim-both L) book (Listed L) (claim-turn L) L each s ok .1
+        pass-along (Claim L) (claim-none L) (claim-both L) book Ok (Listed L) (λ r s l. stays r s (l .0)) (claim-turn L) L
+        (all-among (λ r. r < routinesOf book) L all) s ok .1
 
     pub instant-pays :
         (n : ℕ) (L : List ℕ) → All (λ r. r < routinesOf book) L → (s : State) → Ok s →
         howMany test (instant book n L s .played .told) + total worth L (instant book n L s .played .state) ≤ total worth L s
     instant-pays n L all s ok =
-        let each = all-listed L all in
-        instant-along (Claim L) (claim-none L) (claim-both L) book (Listed L) (claim-turn L) (claim-again L) n L each s ok .1
+        instant-along (Claim L) (claim-none L) (claim-both L) book Ok (Listed L) (λ r s l. stays r s (l .0)) (claim-turn L) again-stays
+        (claim-again L) n L (all-among (λ r. r < routinesOf book) L all) s ok .1

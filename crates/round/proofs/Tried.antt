@@ -3,7 +3,7 @@
 use Prim.Native.Nat.{ℕ, _<_}
 use mathlib.Core.Path.{_≡_, refl, subst}
 use mathlib.Core.Bool.{true, false}
-use mathlib.Core.List.{List, [], _∷_, _++_}
+use mathlib.Core.List.{List, _∷_, _++_}
 use mathlib.Core.Logic.{_⊎_, inl, inr, ⊎-elim}
 use Rattle.numbers.proofs.Tests.{not-true-false}
 use Rattle.book.specs.Layout.{routinesOf}
@@ -12,61 +12,30 @@ use Rattle.game.specs.declared.Game.{Game}
 use Rattle.game.specs.Game.{Sized}
 use Rattle.game.specs.Fits.{Fits}
 use Rattle.round.specs.State.{State, Thing, Happening, missing, past, isThere}
-use Rattle.round.specs.History.{howMany, Somewhere}
+use Rattle.round.specs.History.{Somewhere}
 use Rattle.round.specs.Actions.{atStart}
-use Rattle.round.specs.Rounds.{mostPasses, listedIn, again, turn, round, historyOf}
+use Rattle.round.specs.Rounds.{turn, round, historyOf}
 use Rattle.round.specs.Demand.{Comes}
-use Rattle.round.proofs.Along.{instant-along}
+use Rattle.round.proofs.After.{round-along}
 use Rattle.round.proofs.Sound.{Sound}
-use Rattle.round.proofs.Actions.{at-start-listed}
-use Rattle.round.proofs.Starting.{at-start-sound}
-use Rattle.round.proofs.Staying.{turn-sound, again-sound}
-use Rattle.round.proofs.Moving.{turn-keeps, turn-brings, turn-came, turn-few}
+use Rattle.round.proofs.Turned.{turn-turned}
 use Rattle.round.proofs.Waiting.{clash}
 use Rattle.round.proofs.Closing.{there-again}
 use Rattle.round.proofs.Demand.{none-lost}
-use Rattle.round.proofs.Trying.{InOrder, order-at, There, Becomes, becomes-same, becomes-both, there-or, turn-order}
+use Rattle.round.proofs.Trying.{InOrder, order-at, There, Becomes, becomes-same, becomes-both, becomes-by, turn-order}
 
 module _ (book : List ℕ) (a : Accepted book) where
-  -- a stretch of a round, from a sound state
-  abbrev Claim : State → List Happening → State → Type 0
-  Claim s told u = Sound book s → Sound book u × Becomes s told u
-
-  claim-same : (s : State) → Claim s [] s
-  unfolding howMany
-  claim-same s ok = (ok, becomes-same [] refl (λ t. refl) refl tt)
-
-  claim-again : (s : State) → Claim s [] (again s)
-  unfolding howMany
-  claim-again s ok = (again-sound s ok, becomes-same [] refl (there-again s) refl tt)
-
-  claim-both : (s u v : State) (b c : List Happening) → Claim s b u → Claim u c v → Claim s (b ++ c) v
-  claim-both s u v b c first then ok =
-      let (sound, one) = first ok in
-      let (last, two) = then sound in
-      (last, becomes-both s u v b c one two)
-
-  claim-turn : (r : ℕ) → r < routinesOf book → (s : State) → Claim s (turn book r s .told) (turn book r s .state)
-  claim-turn r l s ok = (
-    turn-sound book a r s l ok,
-    record {
-      few = turn-few book a r s l ok;
-      there =
-          λ h t. (
-            λ k. there-or (isThere s t) (λ n. turn-came book a r s t l ok n k),
-            ⊎-elim (turn-keeps book a r s t l ok) (turn-brings book a r s t l ok h),
-          );
-      order = turn-order book a r s ok;
-    },
-  )
+  turn-becomes :
+      (r : ℕ) (s : State) → r < routinesOf book → Sound book s → Becomes s (turn book r s .told) (turn book r s .state)
+  turn-becomes r s l ok =
+      let t = turn-turned book a r s l ok in
+      becomes-by (t .few) (t .keeps) (t .brings) (t .came) (turn-order book a r s ok)
 
   module _ (g : Game) (z : Sized g) (f : Fits book g) where
     all : Becomes (atStart g) (historyOf book g) (round book g .played .state)
-    unfolding round
     all =
-        let each = at-start-listed book g (a .laid .counts) z f in
-        instant-along Claim claim-same claim-both book (λ r. r < routinesOf book) claim-turn claim-again mostPasses (listedIn g) each
-        (atStart g) (at-start-sound book g a z f) .1
+        round-along book a g z f Becomes (λ s. becomes-same refl (λ t. refl)) becomes-both (λ r s l. turn-becomes r s (l .0))
+        (λ s. becomes-same refl (there-again s))
 
     round-order : InOrder (There (atStart g)) (historyOf book g)
     round-order = all .order (none-lost book a g z f)

@@ -1,30 +1,26 @@
 -- What is told is true in its order: a try finds its thing if the thing is known at first or came before the try, and misses it if not. It
--- holds of one stretch after another, of each step, since a step tries in the state that it is taken in, and so of a turn.
-use Prim.Native.Nat.{ℕ, _<_}
+-- holds of one stretch after another, of each step, since a step tries in the state that it is taken in, and so of a turn. What a step
+-- brings and keeps is what it carries (Coming.antt).
+use Prim.Native.Nat.{ℕ}
 use mathlib.Core.Path.{_≡_, refl, sym, _∙_}
 use mathlib.Core.Bool.{Bool, true, false, true≢false}
 use mathlib.Core.List.{List, [], _∷_, _++_}
 use mathlib.Core.Logic.{_↔_, Iff·symm, Iff·trans, _⊎_, inl, inr, ⊎-map, ⊎-elim}
-use native.Mathlib.Omega.{arith}
-use lib.ListN.{length}
 use Rattle.book.specs.Book.{countsOf, routineSteps}
 use Rattle.book.specs.Accepted.{Accepted}
 use Rattle.round.specs.declared.Position.{Position}
 use Rattle.round.specs.declared.Ending.{Ending}
 use Rattle.round.specs.declared.Effect.{Effect}
-use Rattle.round.specs.declared.Effect.the-variants.{Mark}
 use Rattle.round.specs.State.{State, Thing, Happening, gave, ended, missing, past, marked, completed, isThere}
 use Rattle.round.specs.History.{howMany, Somewhere}
 use Rattle.round.specs.Ticks.{effectOn}
 use Rattle.round.specs.Rounds.{ticks, ticksOf, turn}
-use Rattle.round.specs.Demand.{Comes}
-use Rattle.round.proofs.Acts.{Right, isGiving, Says, Stops}
-use Rattle.round.proofs.TurnLaws.{moves}
-use Rattle.round.proofs.Histories.{somewhere-append, in-second, in-either, nothing-comes}
+use Rattle.round.specs.Demand.{endsRoutine, Comes}
+use Rattle.round.proofs.Acts.{Right, Says, Stops}
+use Rattle.round.proofs.Histories.{says-none, somewhere-append, in-second, in-either}
 use Rattle.round.proofs.Stepping.{ticks-by}
 use Rattle.round.proofs.Sound.{Sound}
-use Rattle.round.proofs.Coming.{come-there}
-use Rattle.round.proofs.Effects.{effect-untouched, effect-ungiven, same-things, Gave, give, give-number}
+use Rattle.round.proofs.Coming.{goes-carries, all-brought}
 use Rattle.round.proofs.Fitting.{effect-sound}
 use Rattle.round.proofs.AfterTurn.{end-keeps, turn-by}
 
@@ -123,40 +119,27 @@ becomes-both s u v a b first then =
       order = λ h. order-then a b first (then .few h) (then .order h);
     }
 
--- where no signal is given the same things are there, and none comes
-pub becomes-same :
-    {s u : State} (told : List Happening) → u .tooMany ≡ s .tooMany → ((t : Thing) → isThere u t ≡ isThere s t) → moves told ≡ 0 →
-    InOrder (There s) told → Becomes s told u
-becomes-same told many same none o =
+-- where nothing is told the same things are there
+pub becomes-same : {s u : State} → u .tooMany ≡ s .tooMany → ((t : Thing) → isThere u t ≡ isThere s t) → Becomes s [] u
+becomes-same many same =
     record {
       few = λ h. sym many ∙ h;
-      there = λ h t. (λ k. inl (sym (same t) ∙ k), ⊎-elim (λ k. same t ∙ k) (λ k. absurd (nothing-comes t told none k)));
-      order = λ h. o;
+      there = λ h t. (λ k. inl (sym (same t) ∙ k), ⊎-elim (λ k. same t ∙ k) (λ n. absurd n));
+      order = λ h. tt;
     }
 
-effect-becomes :
-    (s : State) (e : Effect) (told : List Happening) → isGiving e ≡ false → moves told ≡ 0 → InOrder (There s) told →
-    Becomes s told (effectOn e s)
-effect-becomes s e told h =
-    let same = effect-ungiven s e h in
-    becomes-same told (same .tooMany) (same-things (effect-untouched s e) same)
-
--- a thing is there, or what follows if it is not
-pub there-or : {A : Type 0} (b : Bool) → (b ≡ false → A) → (b ≡ true) ⊎ A
-there-or true h = inl refl
-there-or false h = inr (h refl)
-
--- where one is given, that and its number come
-becomes-given : {s u : State} (r p e k : ℕ) → e < length (s .present) → Gave s e k u → Becomes s (completed r p ∷ gave e k ∷ []) u
-becomes-given {s} {u} r p e k below b =
-    record {
-      few = b .few;
-      there = λ few t. (λ h. there-or (isThere s t) (λ n. inr (inl (b .came t n h))), ⊎-elim (b .keeps t) (brings few t));
-      order = λ h. (tt, (tt, tt));
-    }
+-- by what stays, what comes and what is new
+pub becomes-by :
+    {s u : State} {told : List Happening} → (u .tooMany ≡ false → s .tooMany ≡ false) → ((t : Thing) → There s t → There u t) →
+    ((t : Thing) → u .tooMany ≡ false → Somewhere (Comes t) told → There u t) →
+    ((t : Thing) → isThere s t ≡ false → There u t → Somewhere (Comes t) told) → (u .tooMany ≡ false → InOrder (There s) told) →
+    Becomes s told u
+becomes-by {s} few keeps brings came order =
+    record { few = few; there = λ h t. (λ k. there-or (isThere s t) (λ n. came t n k), ⊎-elim (keeps t) (brings t h)); order = order }
   where
-    brings : u .tooMany ≡ false → (t : Thing) → Somewhere (Comes t) (completed r p ∷ gave e k ∷ []) → There u t
-    brings few t (inr (inl c)) = come-there t below b few c
+    there-or : {A : Type 0} (b : Bool) → (b ≡ false → A) → (b ≡ true) ⊎ A
+    there-or true h = inl refl
+    there-or false h = inr (h refl)
 
 module _ (book : List ℕ) (a : Accepted book) where
   -- the turns of routine r
@@ -164,20 +147,15 @@ module _ (book : List ℕ) (a : Accepted book) where
     abbrev steps : List ℕ
     steps = routineSteps book r
 
-    signal-kept : (s : State) → Sound book s → (e : ℕ) → e < countsOf book .signals → e < length (s .present)
-    signal-kept s ok e l = omega (arith, ok .present, a .laid .counts .fewSignals)
-
-    -- a step that goes on, and one that halts the turn
-    step-becomes :
-        (x : Position) (s : State) (e : Effect) (told : List Happening) → Right (countsOf book) s e →
-        Says (countsOf book) r steps x s e told → Sound book s → Becomes s (completed r (x .place) ∷ told) (effectOn e s)
-    unfolding howMany
-    step-becomes x s e told right (Says.silent h o) ok = effect-becomes s e _ h refl (tt, tt)
-    step-becomes x s e told right (Says.marks {n} o) ok = effect-becomes s (Mark n) _ refl refl (tt, (tt, tt))
-    step-becomes x s e told (Right.give l) (Says.gives {e = i} o) ok = becomes-given r _ i 0 (signal-kept s ok i l) (give s i)
-    step-becomes x s e told (Right.giveNumber l f) (Says.givesNumber {e = i} {v} o) ok =
-        becomes-given r _ i _ (signal-kept s ok i l) (give-number s i v)
-    step-becomes x s e told right (Says.finds h o k) ok = effect-becomes s e _ h refl (tt, (inl k, tt))
+    -- what a step that goes on tells, and one that halts the turn
+    says-order :
+        (x : Position) (s : State) {e : Effect} {told : List Happening} → Says (countsOf book) r steps x s e told →
+        InOrder (There s) (completed r (x .place) ∷ told)
+    says-order x s (Says.silent h o) = (tt, tt)
+    says-order x s (Says.marks o) = (tt, (tt, tt))
+    says-order x s (Says.gives o) = (tt, (tt, tt))
+    says-order x s (Says.givesNumber o) = (tt, (tt, tt))
+    says-order x s (Says.finds h o k) = (tt, (inl k, tt))
 
     stop-order :
         (x : Position) (s : State) {how : Ending} {y : Position} {told : List Happening} → Stops (countsOf book) r steps x s how y told →
@@ -186,6 +164,15 @@ module _ (book : List ℕ) (a : Accepted book) where
     stop-order x s Stops.rests = tt
     stop-order x s (Stops.misses q m e) = ((λ h. true≢false (sym h ∙ m)), tt)
     stop-order x s (Stops.continues q m e) = ((λ h. true≢false (sym h ∙ m)), tt)
+
+    step-becomes :
+        (x : Position) (s : State) (e : Effect) (told : List Happening) → Right (countsOf book) s e →
+        Says (countsOf book) r steps x s e told → Sound book s → Becomes s (completed r (x .place) ∷ told) (effectOn e s)
+    unfolding howMany
+    step-becomes x s e told right says ok =
+        let c = goes-carries (countsOf book) r steps (a .laid .counts .fewSignals) x s e told right says in
+        let noEnd = says-none endsRoutine (λ n. refl) (λ b k. refl) (λ t. refl) says in
+        becomes-by (c .few) (c .keeps) (all-brought c (ok .present) noEnd) (c .came) (λ h. says-order x s says)
 
     -- the steps of a turn
     ticks-order :

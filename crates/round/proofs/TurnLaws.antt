@@ -1,5 +1,6 @@
 -- What the theory of passes asks of a turn: the laws from which the bound on the passes, the end of every routine's waiting and the
--- catching up follow. They hold for the listed routines, in the states that keep what a round keeps.
+-- catching up follow. They hold for the listed routines, in the states that keep what a round keeps; a turn's effect on the state is one of
+-- them (Turned).
 use Prim.Native.Nat.{ℕ, _+_, _<_}
 use mathlib.Core.Path.{_≡_, sym, ap, _∙_, subst}
 use mathlib.Core.Bool.{Bool, true, false, _||_, not}
@@ -9,6 +10,7 @@ use lib.Dec.{eqb}
 use Rattle.kinds.specs.Steps.{stepAt}
 use Rattle.book.specs.Book.{countsOf, routineSteps}
 use Rattle.game.specs.declared.Routine.{Routine}
+use Rattle.game.specs.declared.Game.{Game}
 use Rattle.game.specs.Game.{continuing, routineAt}
 use Rattle.round.specs.declared.Ending.{Ending}
 use Rattle.round.specs.declared.Ending.the-variants.{Continued}
@@ -20,6 +22,7 @@ use Rattle.round.specs.Rounds.{passedOver, took, isDone, again, turn}
 use Rattle.round.specs.Demand.{givesSignal, endsRoutine, Comes, IsPast}
 use Rattle.round.specs.Whole.{isMiss}
 use Rattle.round.proofs.Acts.{Asks}
+use Rattle.round.proofs.Seats.{SameSeat}
 
 -- routine r takes a turn in this state (rule 34), and is not passed over (rule 33)
 abbrev pub takesTurn : Routine → Bool
@@ -31,6 +34,28 @@ isGoing s r = takesTurn (routineAt (s .game) r)
 -- what sets the flag: signals given by steps, and routines ended
 abbrev pub moves : List Happening → ℕ
 moves told = howMany givesSignal told + howMany endsRoutine told
+
+-- a game in which routine r alone may sit elsewhere, and none is suspended or resumed, or joins the playing order or leaves it
+pub record Sits (r : ℕ) (g h : Game) : Type 0 where
+  pub listed : h .listed ≡ g .listed
+  pub suspended : (q : ℕ) → routineAt h q .suspended ≡ routineAt g q .suspended
+  pub others : (q : ℕ) → q ≢ r → SameSeat (routineAt h q) (routineAt g q)
+
+-- what a turn of routine r in state s does, which told this and leaves state v
+pub record Turned (r : ℕ) (s : State) (told : List Happening) (v : State) : Type 0 where
+  pub sits : Sits r (s .game) (v .game)
+  pub eoi : v .eoi ≡ s .eoi
+  pub keeps : (t : Thing) → isThere s t ≡ true → isThere v t ≡ true
+  pub brings : (t : Thing) → v .tooMany ≡ false → Somewhere (Comes t) told → isThere v t ≡ true
+  pub came : (t : Thing) → isThere s t ≡ false → isThere v t ≡ true → Somewhere (Comes t) told
+  pub few : v .tooMany ≡ false → s .tooMany ≡ false
+  pub unmoved : moves told ≡ 0 → v .moved ≡ s .moved
+  pub moved : 0 < moves told → v .moved ≡ true
+
+-- the other routines take turns as before
+pub others-going :
+    {r : ℕ} {s v : State} {told : List Happening} → Turned r s told v → (q : ℕ) → q ≢ r → isGoing v q ≡ isGoing s q
+others-going turned q n = let same = turned .sits .others q n in rw (same .suspended, same .stage)
 
 module _ (book : List ℕ) where
   -- routine r stands at a step, at place p, that asks for thing t
@@ -63,23 +88,8 @@ module _ (book : List ℕ) where
     -- what a state keeps in a round
     pub stays : (r : ℕ) (s : State) → Listed r → Ok s → Ok (turn book r s .state)
     pub staysAgain : (s : State) → Ok s → Ok (again s)
-    -- a turn touches its own routine, and no flag of the scheduler but move
-    pub eoi : (r : ℕ) (s : State) → Listed r → Ok s → turn book r s .state .eoi ≡ s .eoi
-    pub others : (r q : ℕ) (s : State) → Listed r → Ok s → q ≢ r → isGoing (turn book r s .state) q ≡ isGoing s q
-    pub othersWait :
-        (r q p : ℕ) (t : Thing) (s : State) → Listed r → Ok s → q ≢ r → Waits s q p t → Waits (turn book r s .state) q p t
-    -- what is there stays, what is told to come is there, and what is there only now has come
-    pub keeps : (r : ℕ) (s : State) (t : Thing) → Listed r → Ok s → isThere s t ≡ true → isThere (turn book r s .state) t ≡ true
-    pub brings :
-        (r : ℕ) (s : State) (t : Thing) → Listed r → Ok s → turn book r s .state .tooMany ≡ false →
-        Somewhere (Comes t) (turn book r s .told) → isThere (turn book r s .state) t ≡ true
-    pub came :
-        (r : ℕ) (s : State) (t : Thing) → Listed r → Ok s → isThere s t ≡ false → isThere (turn book r s .state) t ≡ true →
-        Somewhere (Comes t) (turn book r s .told)
-    pub few : (r : ℕ) (s : State) → Listed r → Ok s → turn book r s .state .tooMany ≡ false → s .tooMany ≡ false
-    -- the flag says whether anything moved
-    pub unmoved : (r : ℕ) (s : State) → Listed r → Ok s → moves (turn book r s .told) ≡ 0 → turn book r s .state .moved ≡ s .moved
-    pub moved : (r : ℕ) (s : State) → Listed r → Ok s → 0 < moves (turn book r s .told) → turn book r s .state .moved ≡ true
+    -- what a turn does to the things, to the flags and to where routines sit
+    pub turned : (r : ℕ) (s : State) → Listed r → Ok s → Turned r s (turn book r s .told) (turn book r s .state)
     -- how a turn comes out
     pub over :
         (r : ℕ) (s : State) → Listed r → Ok s → isGoing s r ≡ false →

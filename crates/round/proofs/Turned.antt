@@ -1,4 +1,4 @@
--- What a turn does to the things, to the flags, and to where routines sit, by what its steps do and how the last of them halts it. The
+-- What a turn does to the things, to the flags, and to where routines sit, by what its steps do and how the last of them halts it. Its
 -- routine is continuing, so before the turn its end is there by its end signal at most; a turn that ends it tells so last, and then its end
 -- is there.
 use Prim.Native.Nat.{ℕ, _<_}
@@ -13,8 +13,9 @@ use lib.ListN.{length}
 use lib.Seq.{getD-set-same, getD-set-other}
 use Rattle.numbers.proofs.Tests.{not-true-false}
 use Rattle.kinds.specs.declared.Counts.{Counts}
-use Rattle.book.specs.Layout.{mostSignals}
-use Rattle.game.specs.declared.Game.{Game}
+use Rattle.book.specs.Layout.{mostSignals, routinesOf}
+use Rattle.book.specs.Book.{countsOf, routineSteps}
+use Rattle.book.specs.Accepted.{Accepted}
 use Rattle.game.specs.Game.{continuing, blank, routineAt, withRoutine}
 use Rattle.game.specs.Game as stage
 use Rattle.orders.proofs.Stores.{same-set}
@@ -24,35 +25,20 @@ use Rattle.round.specs.declared.Position.{Position}
 use Rattle.round.specs.State.{State, withGame, Thing, signal, end, number, Happening, ended, isEndThere, isThere}
 use Rattle.round.specs.History.{howMany, Somewhere}
 use Rattle.round.specs.Actions.{placed}
-use Rattle.round.specs.Rounds.{Ticks, afterTurn}
+use Rattle.round.specs.Rounds.{Ticks, afterTurn, ticksOf, turn}
 use Rattle.round.specs.Demand.{endsRoutine, Comes}
 use Rattle.round.proofs.Acts.{Stops}
-use Rattle.round.proofs.Coming.{Carries}
+use Rattle.round.proofs.Coming.{Carries, all-brought, turn-untouched, ticks-carry}
 use Rattle.round.proofs.Effects.{Untouched}
 use Rattle.round.proofs.Histories.{many-append, none-of-both, none-told, somewhere-append, in-second, end-ends}
 use Rattle.round.proofs.Seats.{SameSeat, same-seat}
-use Rattle.round.proofs.AfterTurn.{placed-there}
+use Rattle.round.proofs.AfterTurn.{going-parts, turn-by, placed-there}
 use Rattle.round.proofs.Shaping.{Shape}
-use Rattle.round.proofs.TurnLaws.{moves}
+use Rattle.round.proofs.TurnLaws.{moves, Sits, Turned}
+use Rattle.round.proofs.Sound.{Sound}
+use Rattle.round.proofs.Outcomes.{turn-shape}
 
--- a game in which routine r alone may sit elsewhere, and none is suspended or resumed, or joins the playing order or leaves it
-pub record Sits (r : ℕ) (g h : Game) : Type 0 where
-  pub listed : h .listed ≡ g .listed
-  pub suspended : (q : ℕ) → routineAt h q .suspended ≡ routineAt g q .suspended
-  pub others : (q : ℕ) → q ≢ r → SameSeat (routineAt h q) (routineAt g q)
-
--- what a turn of routine r in state s does, which told this and leaves state v
-pub record Turned (r : ℕ) (s : State) (told : List Happening) (v : State) : Type 0 where
-  pub sits : Sits r (s .game) (v .game)
-  pub eoi : v .eoi ≡ s .eoi
-  pub keeps : (t : Thing) → isThere s t ≡ true → isThere v t ≡ true
-  pub brings : (t : Thing) → v .tooMany ≡ false → Somewhere (Comes t) told → isThere v t ≡ true
-  pub came : (t : Thing) → isThere s t ≡ false → isThere v t ≡ true → Somewhere (Comes t) told
-  pub few : v .tooMany ≡ false → s .tooMany ≡ false
-  pub unmoved : moves told ≡ 0 → v .moved ≡ s .moved
-  pub moved : 0 < moves told → v .moved ≡ true
-
-pub passed-over : {r : ℕ} {s : State} → Turned r s [] s
+passed-over : {r : ℕ} {s : State} → Turned r s [] s
 unfolding howMany
 passed-over =
     record {
@@ -112,17 +98,12 @@ module _
             sits = placed-sits next y;
             eoi = a .eoi;
             keeps = λ t h. same-there t ∙ c .keeps t h;
-            brings = brought;
+            brings = λ t h k. same-there t ∙ all-brought c signals noEnd t h k;
             came = λ t h k. c .came t h (sym (same-there t) ∙ k);
             few = c .few;
             unmoved = λ h. c .unmoved (omega arith);
             moved = λ h. c .moved (omega arith);
           }
-        where
-          brought : (t : Thing) → u .tooMany ≡ false → Somewhere (Comes t) told → isThere after t ≡ true
-          brought (signal e) h k = same-there (signal e) ∙ c .brings signals (signal e) refl h k
-          brought (end q) h k = absurd (none-told endsRoutine (Comes (end q)) end-ends told noEnd k)
-          brought (number e n) h k = same-there (number e n) ∙ c .brings signals (number e n) refl h k
 
     -- a turn that ends it
     module _
@@ -188,7 +169,7 @@ module _
             }
 
     -- by how the turn's last step halts it
-    pub turned :
+    turned :
         {counts : Counts} {part : List ℕ} → Shape counts r part steps → r < length (s .endSignals) → Turned r s told (afterTurn r steps)
     unfolding howMany
     turned {counts} {part} shape below =
@@ -204,3 +185,16 @@ module _
         by-stop how y final Stops.rests history = resting-turned stage.rested y refl (none-ends final history refl)
         by-stop how y final (Stops.misses asks m e) history = resting-turned stage.rested y refl (none-ends final history refl)
         by-stop how y final (Stops.continues asks m e) history = resting-turned continuing y refl (none-ends final history refl)
+
+-- a turn is passed over, and then nothing changes, or taken
+module _ (book : List ℕ) (a : Accepted book) where
+  pub turn-turned : (r : ℕ) (s : State) → r < routinesOf book → Sound book s → Turned r s (turn book r s .told) (turn book r s .state)
+  turn-turned r s l ok =
+      let x = routineAt (s .game) r in
+      let few = a .laid .counts .fewRoutines in
+      let below : r < length (s .endSignals) = rw (ok .endSignals) (omega arith) in
+      turn-by book r s (λ p. Turned r s (p .told) (p .state)) (λ h. passed-over)
+      (λ h.
+      turned r s (ticksOf book r s) (turn-untouched book r s)
+      (ticks-carry (countsOf book) r (routineSteps book r) (a .laid .counts .fewSignals) _ _ s) (ok .present)
+      (going-parts (x .suspended) (x .stage) h .1) (turn-shape book a r s l) below)

@@ -14,7 +14,7 @@ use Rattle.round.specs.Rounds.{Turn, took, Played, isDone, allDone, turn
 use Rattle.round.proofs.Along.{All, pass-along}
 use Rattle.round.proofs.Histories.{nothing-comes}
 pub use Rattle.round.proofs.Histories.{moves-append}
-use Rattle.round.proofs.TurnLaws.{isGoing, moves, Waits, TurnLaws}
+use Rattle.round.proofs.TurnLaws.{isGoing, moves, others-going, Waits, waits-too, TurnLaws}
 
 -- a claim by the two values of a flag
 pub by-flag : {P : Type 0} (b : Bool) → (b ≡ true → P) → (b ≡ false → P) → P
@@ -29,24 +29,20 @@ done-append [] b = refl
 done-append (t ∷ a) b = ap (λ d. isDone t && d) (done-append a b) ∙ sym (and-assoc (isDone t) (allDone a) (allDone b))
 
 -- from one state to another, with this told between them
-pub record Passed (Ok : State → Type 0) (s : State) (told : List Happening) (u : State) : Type 0 where
-  pub ok : Ok u
+pub record Passed (s : State) (told : List Happening) (u : State) : Type 0 where
   pub eoi : u .eoi ≡ s .eoi
   pub few : u .tooMany ≡ false → s .tooMany ≡ false
   pub unmoved : moves told ≡ 0 → u .moved ≡ s .moved
   pub moved : 0 < moves told → u .moved ≡ true
 
-passed-same : {Ok : State → Type 0} (s : State) → Ok s → Passed Ok s [] s
+passed-same : (s : State) → Passed s [] s
 unfolding howMany
-passed-same s k = record { ok = k; eoi = refl; few = λ f. f; unmoved = λ m. refl; moved = λ m. absurd (omega arith) }
+passed-same s = record { eoi = refl; few = λ f. f; unmoved = λ m. refl; moved = λ m. absurd (omega arith) }
 
-passed-then :
-    {Ok : State → Type 0} {s u v : State} (a b : List Happening) → Passed Ok s a u → Passed Ok u b v →
-    Passed Ok s (a ++ b) v
-passed-then a b x y =
+passed-then : (s u v : State) (a b : List Happening) → Passed s a u → Passed u b v → Passed s (a ++ b) v
+passed-then s u v a b x y =
     let e = moves-append a b in
     record {
-      ok = y .ok;
       eoi = y .eoi ∙ x .eoi;
       few = λ f. x .few (y .few f);
       unmoved = λ m. y .unmoved (omega arith) ∙ x .unmoved (omega arith);
@@ -68,21 +64,19 @@ module _ (book : List ℕ) where
   Stuck s r = isGoing s r ≡ true → Lacks s r
 
 module _ {book : List ℕ} {Listed : ℕ → Type 0} {Ok : State → Type 0} (laws : TurnLaws book Listed Ok) where
-  pub passed : (l : List ℕ) → All Listed l → (s : State) → Ok s → Passed Ok s (pass book l s .told) (pass book l s .state)
-  passed =
-      pass-along (λ s told u. Ok s → Passed Ok s told u) passed-same
-      (λ s u v a b first then k. let x = first k in passed-then a b x (then (x .ok))) book Listed
-      (λ r l s k.
-      record {
-        ok = laws .stays r s l k;
-        eoi = laws .eoi r s l k;
-        few = laws .few r s l k;
-        unmoved = laws .unmoved r s l k;
-        moved = laws .moved r s l k;
-      })
+  stays-passed :
+      (l : List ℕ) → All Listed l → (s : State) → Ok s →
+      Ok (pass book l s .state) × Passed s (pass book l s .told) (pass book l s .state)
+  stays-passed =
+      pass-along Passed passed-same passed-then book Ok Listed (laws .stays) (λ r s l k.
+      let t = laws .turned r s l k in
+      record { eoi = t .eoi; few = t .few; unmoved = t .unmoved; moved = t .moved })
+
+  pub passed : (l : List ℕ) → All Listed l → (s : State) → Ok s → Passed s (pass book l s .told) (pass book l s .state)
+  passed l a s k = stays-passed l a s k .1
 
   pub pass-stays : (l : List ℕ) → All Listed l → (s : State) → Ok s → Ok (pass book l s .state)
-  pass-stays l a s k = passed l a s k .ok
+  pass-stays l a s k = stays-passed l a s k .0
 
   -- behind a pass the flag says whether anything moved in it, if it was not set before
   pub unmoved-pass :
@@ -134,7 +128,7 @@ module _ {book : List ℕ} {Listed : ℕ → Type 0} {Ok : State → Type 0} (la
       next : q ≢ r → Among q (r ∷ l) ⊎ (isGoing s q ≡ false) → Among q l ⊎ (isGoing (turn book r s .state) q ≡ false)
       next n (inl (inl e)) = absurd (n e)
       next n (inl (inr i)) = inl i
-      next n (inr g) = inr (laws .others r q s (a .0) k n ∙ g)
+      next n (inr g) = inr (others-going (laws .turned r s (a .0) k) q n ∙ g)
 
   pub stuck-own : (r : ℕ) (s : State) → Listed r → Ok s → Stuck book (turn book r s .state) r
   stuck-own r s l k g =
@@ -145,14 +139,15 @@ module _ {book : List ℕ} {Listed : ℕ → Type 0} {Ok : State → Type 0} (la
       (r q : ℕ) (s : State) → Listed r → Ok s → q ≢ r → moves (turn book r s .told) ≡ 0 → Stuck book s q →
       Stuck book (turn book r s .state) q
   stuck-other r q s l k n m h g =
-      let w = h (sym (laws .others r q s l k n) ∙ g) in
+      let turned = laws .turned r s l k in
+      let w = h (sym (others-going turned q n) ∙ g) in
       record {
         place = w .place;
         thing = w .thing;
-        waits = laws .othersWait r q (w .place) (w .thing) s l k n (w .waits);
+        waits = waits-too book q (w .place) (w .thing) s _ (turned .sits .others q n .position) (w .waits);
         missed =
             not-true-false _ (λ t.
-            nothing-comes (w .thing) (turn book r s .told) m (laws .came r s (w .thing) l k (w .missed) t));
+            nothing-comes (w .thing) (turn book r s .told) m (turned .came (w .thing) (w .missed) t));
       }
 
   pub stuck-pass :

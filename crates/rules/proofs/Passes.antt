@@ -36,7 +36,7 @@ use Rattle.round.proofs.Lasting.{routine-in-time}
 use Rattle.round.proofs.Coming.{ticks-seats}
 use Rattle.round.proofs.AfterTurn.{going-parts, end-keeps, position-after, turn-over, taken, turn-taken}
 use Rattle.round.proofs.Staying.{turn-sound, again-sound}
-use Rattle.round.proofs.Moving.{turn-seats}
+use Rattle.round.proofs.Turned.{turn-turned}
 use Rattle.round.proofs.After.{pass-keeps, instant-keeps}
 use Rattle.round.proofs.Waiting.{by-flag, done-append}
 use Rattle.rules.specs.Instructions.{CONT, Instruction}
@@ -105,7 +105,7 @@ module _ (book : List ℕ) (a : Accepted book) where
             | no n ↦
                 let other : after q ≡ positionOf (routineAt (s .game) q) =
                 sym (ap (λ (d : Played). positionOf (routineAt (d .state .game) q)) (turn-taken book r s going))
-                ∙ turn-seats book a r q s l sound n .position in
+                ∙ turn-turned book a r s l sound .sits .others q n .position in
                 rw (ne-eqb q r n, other) (stand q m)
           ]
 
@@ -156,7 +156,7 @@ module _ (book : List ℕ) (a : Accepted book) where
   turns-by-rules (r ∷ rs) b run s ms stand sound few =
       let first = turn book r s in
       let sound-first = turn-sound book a r s (b .0) sound in
-      let few-first = pass-keeps book a rs (b .1) (first .state) sound-first .few few in
+      let few-first = pass-keeps book a rs (b .1) (first .state) sound-first .1 .few few in
       let (to, rule, stand-first) = turn-by-rules r (b .0) run s stand sound ms few-first in
       let (last, others, stand-last) =
       turns-by-rules rs (b .1) to (first .state) (ms ++ marksIn (first .told)) stand-first sound-first few in
@@ -191,11 +191,11 @@ module _ (book : List ℕ) (a : Accepted book) where
       let rs = listed s in
       let first = pass book rs s in
       let u = again (first .state) in
-      let kept = pass-keeps book a rs (listed-below s sound) s sound in
+      let (sound-last, kept) = pass-keeps book a rs (listed-below s sound) s sound in
       let same : listed u ≡ rs = ap (λ l. entriesOf l) (kept .listed) in
-      let sound-again = again-sound (first .state) (kept .sound) in
+      let sound-again = again-sound (first .state) sound-last in
       let few-last : instant book n rs u .played .state .tooMany ≡ false = rw undone at few in
-      let few-first = instant-keeps book a n rs (listed-below s sound) u sound-again .few few-last in
+      let few-first = instant-keeps book a n rs (listed-below s sound) u sound-again .1 .few few-last in
       let (to, rule, stand-first) = pass-by-rules run s ms stand sound few-first in
       let (last, others, stand-last) =
       rw same at (instant-by-rules n to u (ms ++ marksIn (first .told)) stand-first sound-again (rw same ends) (rw same few-last)) in
