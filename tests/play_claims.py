@@ -48,11 +48,10 @@ use lib.ListN.{length, getD, set, take, drop, replicate}
 use lib.IntN.{ℤ, pos}
 use Rattle.numbers.specs.Choice.{if_then_else_}
 use Rattle.kinds.specs.Steps.{stepAt}
-use Rattle.book.specs.declared.Verdict.{Verdict}
-use Rattle.book.specs.Verdicts.{accepted, _orElse_, firstRefusal}
-use Rattle.book.specs.Layout.{mostRoutines, mostSignals, routinesOf, stepsOf, layoutVerdict, directoryVerdict}
-use Rattle.book.specs.Book.{countsOf, stepVerdict, stepsPart, stepsVerdict, nestingVerdict, pausingVerdict, bookVerdict}
-use Rattle.book.specs.Book.{routineSteps, shown}
+use Rattle.layout.specs.declared.Verdict.{Verdict}
+use Rattle.layout.specs.Verdicts.{accepted, _orElse_, firstRefusal, refused}
+use Rattle.layout.specs.Layout.{mostRoutines, mostSignals, routinesOf, stepsOf, layoutVerdict, directoryVerdict, countsOf, stepsBefore}
+use Rattle.book.specs.Book.{stepVerdict, stepsPart, stepsVerdict, nestingVerdict, pausingVerdict, bookVerdict, routineSteps, shown}
 use Rattle.game.specs.declared.Routine.{Routine}
 use Rattle.game.specs.declared.Line.{Line}
 use Rattle.game.specs.declared.Game.{Game}
@@ -339,28 +338,20 @@ unfolding playedFrom numbersBelow routineLines markLines obeyed written marksIn 
 
 HEADER = """\
 -- Books of a script of plays, and what their commands answer.
-use Prim.Native.Nat.{ℕ}
-use mathlib.Core.Path.{_≡_, refl}
-use mathlib.Core.List.{List, [], _∷_}
-use lib.ListN.{replicate}
-use lib.IntN.{ℤ, pos, negsuc}
-use Rattle.kinds.specs.Steps.{rowOf, decoded, stepAt}
+use lib.IntN.{negsuc}
+use Rattle.kinds.specs.Steps.{rowOf, decoded}
 use Rattle.blocks.specs.Blocks.{viewAt, blockBy, stepOf, routineOf, partnerOf}
-use Rattle.book.specs.Verdicts.{accepted, refused, _orElse_, firstRefusal}
-use Rattle.book.specs.Layout.{layoutVerdict, stepsBefore, directoryVerdict}
-use Rattle.book.specs.Book.{stepsVerdict, routinePart, routineWalk, nestingVerdict, pausingVerdict, bookVerdict}
+use Rattle.book.specs.Book.{routinePart, routineWalk}
 use Rattle.game.specs.Below.{allBelow, anyBelow}
 use Rattle.game.specs.Lines.{isIn, appended}
-use Rattle.game.specs.Game.{blankGame, withStart}
-use Rattle.game.specs.Fitting.{routineFits, slotFits, entryFits, lineFits, countersFit, signalsFit, fitsBook}
-use Rattle.orders.specs.SetUp.{newGame}
-use Rattle.orders.specs.Orders.{obeyed}
+use Rattle.game.specs.Game.{withStart}
+use Rattle.fitting.specs.Fitting.{routineFits, slotFits, entryFits, lineFits, countersFit, signalsFit, fitsBook}
 use Rattle.round.specs.State.{numbersWith, isEndThere, isThere}
-use Rattle.round.specs.Actions.{kept, each, atStart}
+use Rattle.round.specs.Actions.{kept, each}
 use Rattle.round.specs.Jumps.{pastPartner, openingBefore, fromEnd}
 use Rattle.round.specs.Ticks.{waitsFor, tickOf, tick, effectOn}
-use Rattle.round.specs.Rounds.{ticks, allDone, turn, pass, instant, round}
-use Rattle.round.specs.History.{countBelow, stepsIn, howMany}
+use Rattle.round.specs.Rounds.{ticks, allDone, turn, pass, instant}
+use Rattle.round.specs.History.{countBelow}
 use Rattle.round.specs.Answers.{marksIn, written}
 use Rattle.round.specs.Script.{slices, stepIn, steps-verdict, book-verdict, numbersBelow, routineLines}
 use Rattle.round.specs.Script.{Command, Book, Read, Show, SetUp, Order, Round, Poke, PokeCounter, Log, Facts, Dump, Lines}

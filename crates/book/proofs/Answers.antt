@@ -5,11 +5,11 @@ use mathlib.Core.List.{List, [], _∷_}
 use native.Mathlib.Omega.{arith}
 use types.Run.{OneOf, miss}
 use denote.Enum.Declared.{tagOf}
-use Rattle.book.specs.declared.Answer.{Answer}
-use Rattle.book.specs.declared.Answer.the-variants.{Accepted, TooShort, WrongCount, WrongLayout, WrongEntry, WrongStep}
-use Rattle.book.specs.declared.Answer.the-variants.{WrongNesting, WithoutPause}
-use Rattle.book.specs.Verdicts.{verdictOf}
-use Rattle.book.proofs.Answer.{the-type}
+use Rattle.layout.specs.declared.Answer.{Answer}
+use Rattle.layout.specs.declared.Answer.the-variants.{Accepted, TooShort, WrongCount, WrongLayout, WrongEntry, WrongStep}
+use Rattle.layout.specs.declared.Answer.the-variants.{WrongNesting, WithoutPause}
+use Rattle.layout.specs.Verdicts.{verdictOf}
+use Rattle.layout.proofs.Answer.{the-type}
 
 -- the variants behind the first
 abbrev refusals : List ℕ

@@ -1,7 +1,5 @@
 pub mod Answers
 pub mod Decided
-pub mod Directory
-pub mod First
 pub mod Laid
 pub mod Laws
 pub mod Parts

@@ -9,7 +9,7 @@ use native.Mathlib.Decide.{decLt}
 use lib.ListN.{length, getD, take, drop, length-take, length-drop}
 use lib.Seq.{getD-take, getD-drop, drop-drop, length-take-le}
 use Rattle.kinds.specs.declared.Counts.{Counts}
-use Rattle.book.specs.Layout.{stepsOf, stepsFrom, firstStep, stepCount}
+use Rattle.layout.specs.Layout.{stepsOf, stepsFrom, firstStep, stepCount}
 use Rattle.kinds.specs.Steps.{stepBytes, decoded, opAt, fieldA, fieldB, fieldN, stepAt}
 use Rattle.book.specs.Book.{stepsPart, routinePart, routineSteps}
 use Rattle.kinds.proofs.Readable.{step-there, step-missing}

@@ -4,11 +4,11 @@ use mathlib.Core.Path.{_≡_}
 use mathlib.Core.List.{List}
 use lib.ListN.{length}
 use Rattle.numbers.specs.Numbers.{halfAt}
-use Rattle.book.specs.Layout.{headerBytes, mostRoutines, mostSteps, mostSignals, mostCounters, routinesOf, stepsOf, signalsOf}
-use Rattle.book.specs.Layout.{countersOf, stepsFrom, firstStep, stepCount, stepsBefore}
+use Rattle.layout.specs.Layout.{headerBytes, mostRoutines, mostSteps, mostSignals, mostCounters, routinesOf, stepsOf, signalsOf, countsOf}
+use Rattle.layout.specs.Layout.{countersOf, stepsFrom, firstStep, stepCount, stepsBefore}
 use Rattle.kinds.specs.Steps.{stepBytes, Readable, opAt, fieldA, fieldB, fieldN}
 use Rattle.blocks.specs.Blocks.{deepest}
-use Rattle.book.specs.Book.{countsOf, stepsPart, viewOf}
+use Rattle.book.specs.Book.{stepsPart, viewOf}
 use Rattle.blocks.specs.Parse.{ParsedBlock, WhilesPause}
 
 -- "routines R (1 to 64), steps S (0 to 1,024), signals E (0 to 64), counters C (0 to 64)"

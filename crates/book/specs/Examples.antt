@@ -4,9 +4,9 @@ use mathlib.Core.Path.{_≡_, refl}
 use mathlib.Core.List.{List, [], _∷_, _++_, map}
 use lib.ListN.{length}
 use Rattle.kinds.specs.Steps.{rowOf, decoded, stepAt}
-use Rattle.book.specs.declared.Verdict.{Verdict}
-use Rattle.book.specs.Verdicts.{accepted, refused, firstRefusal}
-use Rattle.book.specs.Layout.{layoutVerdict, stepsBefore, directoryVerdict}
+use Rattle.layout.specs.declared.Verdict.{Verdict}
+use Rattle.layout.specs.Verdicts.{accepted, refused, firstRefusal}
+use Rattle.layout.specs.Layout.{layoutVerdict, stepsBefore, directoryVerdict}
 use Rattle.blocks.specs.Blocks.{viewAt, blockBy, stepOf, routineOf}
 use Rattle.book.specs.Book.{stepsVerdict, routinePart, routineWalk, nestingVerdict, pausingVerdict, bookVerdict}
 

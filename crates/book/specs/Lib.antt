@@ -1,5 +1,3 @@
-pub mod Verdicts
-pub mod Layout
 pub mod Book
 pub mod Accepted
 pub mod Tells

@@ -1,14 +1,7 @@
 // Refusals 5 to 7: every step of the book, then its blocks, routine by routine.
-use crate::Answer;
 use crate::WRONG_NESTING;
 use crate::WRONG_STEP;
 use crate::first_answer;
-use crate::layout::counts_of;
-use crate::layout::first_step;
-use crate::layout::routines;
-use crate::layout::step_count;
-use crate::layout::steps;
-use crate::layout::steps_from;
 use crate::verdict_of;
 use blocks::Fault;
 use blocks::Walk;
@@ -16,11 +9,18 @@ use blocks::read_routine;
 use kinds::STEP_BYTES;
 use kinds::Step;
 use kinds::step_at;
+use layout::Answer;
+use layout::counts_of;
+use layout::first_step;
+use layout::routines;
+use layout::step_count;
+use layout::steps;
+use layout::steps_from;
 ghost use mathlib.Core.Path.{_≡_};
 ghost use Prim.Native.Nat.{_+_, _<_};
 ghost use Rattle.numbers.specs.Numbers.{halfLimit};
-ghost use Rattle.book.specs.Verdicts.{accepted, verdictOf, _orElse_};
-ghost use Rattle.book.specs.Layout.{routinesOf, layoutVerdict, directoryVerdict};
+ghost use Rattle.layout.specs.Verdicts.{accepted, verdictOf, _orElse_};
+ghost use Rattle.layout.specs.Layout.{routinesOf, layoutVerdict, directoryVerdict};
 ghost use Rattle.book.specs.Book.{stepsVerdict, nestingVerdict, pausingVerdict, nestingAt, pausingAt};
 
 // Refusal 5, over the whole book.

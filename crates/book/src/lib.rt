@@ -1,36 +1,19 @@
 // Books of routines: read from any bytes, and shown. Document 01, "The book" and "Turned down because of the input".
 mod checks;
-pub mod layout;
 
 use kinds::STEP_BYTES;
+use layout::Answer;
+use layout::Verdict;
 ghost use mathlib.Core.Path.{_≡_};
 ghost use Prim.Native.Nat.{_+_};
-ghost use Rattle.book.specs.Verdicts.{refused, verdictOf, _orElse_};
-ghost use Rattle.book.specs.Book.{bookVerdict, routineSteps, routineStepsFrom, shown, shownFrom};
-
-// What reading a book answers: accepted, or the first refusal that applies, with its place where it has one.
-pub enum Answer {
-    Accepted,
-    TooShort,
-    WrongCount,
-    WrongLayout,
-    WrongEntry(u32),
-    WrongStep(u32),
-    WrongNesting(u32),
-    WithoutPause(u32),
-}
+ghost use Rattle.layout.specs.Verdicts.{refused, verdictOf, _orElse_};
+ghost use Rattle.book.specs.Book.{bookVerdict, routineSteps, shown, shownFrom};
+ghost use Rattle.layout.specs.Layout.{routineStepsFrom};
 
 // The numbers of the refusals that reading blocks tells before any other.
 const WRONG_STEP: u32 = 5;
 
 const WRONG_NESTING: u32 = 6;
-
-// A refusal's number and place; both 0 where nothing is turned down.
-#[repr(C)]
-pub struct Verdict {
-    pub number: u32,
-    pub place: u32,
-}
 
 pub fn verdict_of(answer: Answer) -> Verdict
     ensures { λ r. ⌜ r ≡ verdictOf answer ⌝ }

@@ -1,13 +1,13 @@
 // Reads the books of the input, a line each: the number and the place expected, and the bytes in hexadecimal (`-` for none).
 // Prints what reading each book answers, and whether that is what its line expects.
-use words::Bytes;
-use words::LONGEST;
-use words::Number;
-use words::decimal;
+use digits::Bytes;
+use digits::LONGEST;
+use digits::Number;
+use digits::decimal;
+use digits::read_bytes;
 use words::find;
 use words::first;
 use words::part;
-use words::read_bytes;
 use words::rest;
 
 // The bytes that are kept of the input.
@@ -20,7 +20,7 @@ fn print_pair(number: u32, place: u32) {
 }
 
 // Prints a book's verdict beside the one that is expected, and answers whether they are the same.
-fn compare(verdict: book::Verdict, number: u32, place: u32) -> bool {
+fn compare(verdict: layout::Verdict, number: u32, place: u32) -> bool {
     print_pair(verdict.number, verdict.place);
     if verdict.number == number {
         if verdict.place == place {
@@ -40,7 +40,7 @@ fn unreadable() -> bool {
 }
 
 // What reading the first `count` bytes answers.
-fn verdict_on(book: &[u8; LONGEST], count: usize) -> book::Verdict {
+fn verdict_on(book: &[u8; LONGEST], count: usize) -> layout::Verdict {
     book::verdict_of(book::read_book(part(book, count)))
 }
 

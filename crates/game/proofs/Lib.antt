@@ -1,6 +1,1 @@
 pub mod Below
-pub mod Tests
-pub mod Lists
-pub mod Routines
-pub mod Decides
-pub mod Room

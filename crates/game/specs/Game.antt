@@ -10,7 +10,7 @@ use lib.ListN.{length, getD, set, replicate}
 use lib.IntN.{ℤ, pos}
 use Rattle.numbers.specs.Choice.{if_then_else_}
 use Rattle.kinds.specs.declared.Counts.{Counts}
-use Rattle.book.specs.Layout.{mostRoutines, mostSignals, mostCounters}
+use Rattle.layout.specs.Layout.{mostRoutines, mostSignals, mostCounters}
 use Rattle.game.specs.declared.Routine.{Routine}
 use Rattle.game.specs.declared.Line.{Line}
 use Rattle.game.specs.declared.Game.{Game}

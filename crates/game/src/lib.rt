@@ -1,11 +1,10 @@
-// Games: what is kept between rounds, and which games fit a book. Document 01, "The game".
-pub mod fitting;
+// Games: what is kept between rounds. Document 01, "The game".
 pub mod lines;
 
-use book::layout::MOST_COUNTERS;
-use book::layout::MOST_ROUTINES;
-use book::layout::MOST_SIGNALS;
 use kinds::Counts;
+use layout::MOST_COUNTERS;
+use layout::MOST_ROUTINES;
+use layout::MOST_SIGNALS;
 ghost use mathlib.Core.Path.{_≡_};
 ghost use Rattle.game.specs.Game.{blank, blankGame, withStop, withSuspend, withResume};
 

@@ -3,6 +3,13 @@
 mod pokes;
 mod printing;
 
+use digits::Bytes;
+use digits::LONGEST;
+use digits::Number;
+use digits::Pair;
+use digits::decimal;
+use digits::read_bytes;
+use digits::read_pair;
 use game::Game;
 use game::blank_game;
 use pokes::poke_field;
@@ -10,18 +17,11 @@ use printing::print_bytes;
 use printing::print_game;
 use printing::print_verdict;
 use printing::print_wrong;
-use words::Bytes;
-use words::LONGEST;
-use words::Number;
-use words::Pair;
-use words::decimal;
 use words::find;
 use words::first;
 use words::is;
 use words::part;
 use words::place_in;
-use words::read_bytes;
-use words::read_pair;
 use words::rest;
 
 // The bytes that are kept of the input.

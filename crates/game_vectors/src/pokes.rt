@@ -1,13 +1,13 @@
 // Pokes: one field of a game is overwritten. A name that no field has, an index past the end and a value that the field
 // cannot hold are told, and leave the game as it is. A field goes by the place of its name in a list.
 use crate::printing::print_wrong;
-use book::layout::MOST_COUNTERS;
-use book::layout::MOST_ROUTINES;
-use book::layout::MOST_SIGNALS;
 use game::Game;
 use game::Line;
 use game::MOST_ENTRIES;
 use game::Routine;
+use layout::MOST_COUNTERS;
+use layout::MOST_ROUTINES;
+use layout::MOST_SIGNALS;
 use words::place_in;
 
 // The largest value that a field of a routine can hold, by the field's place in `poke_routine`.

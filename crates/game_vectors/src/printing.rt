@@ -1,13 +1,13 @@
 // What is printed: verdicts, bytes and games.
-use book::Verdict;
-use book::layout::MOST_COUNTERS;
-use book::layout::MOST_ROUTINES;
-use book::layout::MOST_SIGNALS;
 use game::Game;
 use game::Line;
 use game::MOST_ENTRIES;
 use game::Routine;
 use kinds::Counts;
+use layout::MOST_COUNTERS;
+use layout::MOST_ROUTINES;
+use layout::MOST_SIGNALS;
+use layout::Verdict;
 use orders::RESUME;
 use orders::STOP;
 use orders::SUSPEND;

@@ -13,8 +13,8 @@ use Rattle.game.specs.declared.Routine.{Routine}
 use Rattle.game.specs.declared.Game.{Game}
 use Rattle.game.specs.Game.{notStarted, blank, routineAt, withStarting, withRoutine, Sized}
 use Rattle.game.specs.Lines.{isIn}
-use Rattle.game.specs.Fits.{In, Fits}
-use Rattle.game.proofs.Lists.{is-in}
+use Rattle.fitting.specs.Fits.{In, Fits}
+use Rattle.fitting.proofs.Lists.{is-in}
 use Rattle.orders.specs.Orders.{orderVerdict, obeyed, ordered}
 use Rattle.orders.specs.Joined.{Joined, OnlyAdds}
 use Rattle.orders.proofs.Games.{game-either}

@@ -5,11 +5,11 @@ use mathlib.Core.Path.{_≡_, sym, _∙_, ap}
 use mathlib.Core.List.{List}
 use native.Mathlib.Decide.{ℕ-discrete}
 use borrow.Author.Tests.{eq-eqb}
-use Rattle.book.specs.Verdicts.{accepted}
+use Rattle.layout.specs.Verdicts.{accepted}
 use Rattle.game.specs.declared.Game.{Game}
 use Rattle.game.specs.Game.{Sized}
-use Rattle.game.specs.Fitting.{fitsBook}
-use Rattle.game.proofs.Decides.{fits-decides}
+use Rattle.fitting.specs.Fitting.{fitsBook}
+use Rattle.fitting.proofs.Decides.{fits-decides}
 use Rattle.orders.specs.declared.Outcome.{Outcome}
 use Rattle.orders.specs.SetUp.{GivesFitting}
 use Rattle.orders.specs.Orders.{orderVerdict, obeyed, ordered}

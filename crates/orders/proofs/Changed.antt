@@ -5,15 +5,15 @@ use mathlib.Core.Path.{_≡_, refl}
 use mathlib.Core.Bool.{Bool, false}
 use mathlib.Core.List.{List}
 use lib.ListN.{length, getD}
-use Rattle.book.specs.Layout.{mostRoutines, mostSignals, routinesOf, signalsOf}
+use Rattle.layout.specs.Layout.{mostRoutines, mostSignals, routinesOf, signalsOf}
 use Rattle.game.specs.declared.Routine.{Routine}
 use Rattle.game.specs.declared.Line.{Line}
 use Rattle.game.specs.declared.Game.{Game}
 use Rattle.game.specs.Lines.{mostEntries}
 use Rattle.game.specs.Game.{notStarted, blank, routineAt, Sized}
-use Rattle.game.specs.Fits.{In, Fits}
-use Rattle.game.proofs.Lists.{LineRight}
-use Rattle.game.proofs.Decides.{fit-lists}
+use Rattle.fitting.specs.Fits.{In, Fits}
+use Rattle.fitting.proofs.Lists.{LineRight}
+use Rattle.fitting.proofs.Decides.{fit-lists}
 
 abbrev pub changed : Game → List Routine → Line → List Bool → Game
 changed g routines starting broadcast =

@@ -5,8 +5,7 @@ use mathlib.Core.Path.{_≡_, refl}
 use mathlib.Core.List.{List}
 use native.Mathlib.Nat.{lt-of-lt-of-le}
 use native.Mathlib.Omega.{arith}
-use Rattle.book.specs.Layout.{mostRoutines, mostSignals}
-use Rattle.book.specs.Book.{countsOf}
+use Rattle.layout.specs.Layout.{mostRoutines, mostSignals, countsOf}
 use Rattle.book.specs.Accepted.{CountsInRange}
 use Rattle.game.specs.declared.Game.{Game}
 use Rattle.orders.specs.Orders.{orderCount, mostCounts, orderVerdict}

@@ -6,15 +6,14 @@ use mathlib.Core.Bool.{Bool, true, false}
 use mathlib.Core.List.{List}
 use native.Mathlib.Omega.{arith}
 use lib.Seq.{getD-set-same}
-use Rattle.book.specs.Verdicts.{accepted}
-use Rattle.book.specs.Layout.{routinesOf}
-use Rattle.book.specs.Book.{countsOf}
+use Rattle.layout.specs.Verdicts.{accepted}
+use Rattle.layout.specs.Layout.{routinesOf, countsOf}
 use Rattle.book.specs.Accepted.{CountsInRange}
 use Rattle.game.specs.declared.Routine.{Routine}
 use Rattle.game.specs.declared.Game.{Game}
 use Rattle.game.specs.Game.{notStarted, blank, routineAt, withRoutine, Sized}
-use Rattle.game.specs.Fits.{Fits}
-use Rattle.game.proofs.Room.{start-joins}
+use Rattle.fitting.specs.Fits.{Fits}
+use Rattle.fitting.proofs.Room.{start-joins}
 use Rattle.orders.specs.Orders.{orderCount, obeyed, ordered}
 use Rattle.orders.specs.Joined.{Joined}
 use Rattle.orders.proofs.Telling.{told-right, order-tells}

@@ -8,13 +8,12 @@ use native.Mathlib.Omega.{arith}
 use native.Mathlib.Decide.{decLt}
 use lib.ListN.{length, getD, set, length-set}
 use lib.Seq.{getD-set-same, getD-set-other, set-out, set-set}
-use Rattle.book.specs.Layout.{routinesOf}
-use Rattle.book.specs.Book.{countsOf}
+use Rattle.layout.specs.Layout.{routinesOf, countsOf}
 use Rattle.game.specs.declared.Routine.{Routine}
 use Rattle.game.specs.declared.Game.{Game}
 use Rattle.game.specs.Game.{blank, routineAt, withFlags, withStop, withSuspend, withResume, Sized}
 use Rattle.game.specs.Game.{withRoutines, withRoutine, withStarting, withBroadcast}
-use Rattle.game.specs.Fits.{Fits}
+use Rattle.fitting.specs.Fits.{Fits}
 use Rattle.orders.specs.Orders.{orderCount, obeyed}
 use Rattle.orders.proofs.Changed.{same-flags, same-starts, changed-fits, changed-sized}
 use Rattle.orders.proofs.Starts.{starts-start, start-sized, start-again}

@@ -10,14 +10,14 @@ use lib.ListN.{getD, replicate, length-replicate}
 use lib.IntN.{pos}
 use lib.Signed.{leZ-yes}
 use Rattle.kinds.specs.declared.Counts.{Counts}
-use Rattle.book.specs.Layout.{mostRoutines, mostSignals, mostCounters}
-use Rattle.book.specs.Book.{countsOf, bookVerdict}
+use Rattle.layout.specs.Layout.{mostRoutines, mostSignals, mostCounters, countsOf}
+use Rattle.book.specs.Book.{bookVerdict}
 use Rattle.book.specs.Accepted.{Accepted}
 use Rattle.book.proofs.Telling.{accepted-tells}
 use Rattle.game.specs.declared.Game.{Game}
 use Rattle.game.specs.Game.{notStarted, blank, routineAt, Sized}
 use Rattle.game.specs.Lines.{mostEntries, empty, itemAt, pushed}
-use Rattle.game.specs.Fits.{Fits}
+use Rattle.fitting.specs.Fits.{Fits}
 use Rattle.orders.specs.SetUp.{GivesFitting, newGame, setUp}
 use Rattle.orders.proofs.Games.{game-either}
 

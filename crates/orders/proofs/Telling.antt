@@ -8,17 +8,18 @@ use native.Mathlib.Omega.{arith}
 use native.Mathlib.Decide.{decLt}
 use borrow.Author.Tests.{lt-ltb, le-ltb}
 use Rattle.numbers.proofs.Tests.{not-true-false}
-use Rattle.book.specs.declared.Verdict.{Verdict}
-use Rattle.book.specs.Verdicts.{refused, _orElse_}
-use Rattle.book.specs.Book.{countsOf, bookVerdict}
+use Rattle.layout.specs.declared.Verdict.{Verdict}
+use Rattle.layout.specs.Verdicts.{refused, _orElse_}
+use Rattle.layout.specs.Layout.{countsOf}
+use Rattle.book.specs.Book.{bookVerdict}
 use Rattle.book.specs.Accepted.{Accepted}
 use Rattle.book.specs.Tells.{Tells}
-use Rattle.book.proofs.First.{orElse-told}
+use Rattle.layout.proofs.First.{orElse-told}
 use Rattle.book.proofs.Telling.{tells, told-only, number-accepted}
 use Rattle.game.specs.declared.Game.{Game}
-use Rattle.game.specs.Fitting.{fitsBook}
-use Rattle.game.specs.Fits.{Fits}
-use Rattle.game.proofs.Decides.{fits-decides}
+use Rattle.fitting.specs.Fitting.{fitsBook}
+use Rattle.fitting.specs.Fits.{Fits}
+use Rattle.fitting.proofs.Decides.{fits-decides}
 use Rattle.orders.specs.Orders.{orderCount, fitVerdict, orderVerdict}
 use Rattle.orders.specs.Tells.{OrderTells}
 

@@ -6,17 +6,17 @@ use mathlib.Core.List.{List, [], _∷_, map}
 use lib.ListN.{take}
 use Rattle.kinds.specs.Steps.{rowOf, decoded, stepAt}
 use Rattle.blocks.specs.Blocks.{viewAt, blockBy, stepOf, routineOf}
-use Rattle.book.specs.declared.Verdict.{Verdict}
-use Rattle.book.specs.Verdicts.{accepted, refused, firstRefusal}
-use Rattle.book.specs.Layout.{layoutVerdict, stepsBefore, directoryVerdict}
-use Rattle.book.specs.Book.{countsOf, stepsVerdict, routinePart, routineWalk, nestingVerdict, pausingVerdict, bookVerdict}
+use Rattle.layout.specs.declared.Verdict.{Verdict}
+use Rattle.layout.specs.Verdicts.{accepted, refused, firstRefusal}
+use Rattle.layout.specs.Layout.{layoutVerdict, stepsBefore, directoryVerdict, countsOf}
+use Rattle.book.specs.Book.{stepsVerdict, routinePart, routineWalk, nestingVerdict, pausingVerdict, bookVerdict}
 use Rattle.book.specs.Examples.{t3}
 use Rattle.game.specs.declared.Routine.{Routine}
 use Rattle.game.specs.declared.Game.{Game}
 use Rattle.game.specs.Below.{allBelow, anyBelow}
 use Rattle.game.specs.Lines.{isIn}
 use Rattle.game.specs.Game.{continuing, ended, withRoutine, withStart}
-use Rattle.game.specs.Fitting.{routineFits, slotFits, entryFits, lineFits, countersFit, signalsFit, fitsBook}
+use Rattle.fitting.specs.Fitting.{routineFits, slotFits, entryFits, lineFits, countersFit, signalsFit, fitsBook}
 use Rattle.orders.specs.SetUp.{newGame}
 use Rattle.orders.specs.Orders.{orderVerdict, obeyed, ordered}
 

@@ -5,7 +5,7 @@ use mathlib.Core.Bool.{true}
 use mathlib.Core.Logic.{_⊎_}
 use Rattle.game.specs.declared.Game.{Game}
 use Rattle.game.specs.Game.{routineAt, isBroadcast}
-use Rattle.game.specs.Fits.{In}
+use Rattle.fitting.specs.Fits.{In}
 
 -- by kind: n is to be broadcast, to start, to stop, to suspend, to resume
 unfoldable pub Joined : ℕ → Game → ℕ → Type 0

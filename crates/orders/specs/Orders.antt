@@ -5,13 +5,13 @@ use mathlib.Core.List.{List, [], _∷_}
 use lib.Dec.{ltb}
 use lib.ListN.{getD, set}
 use Rattle.kinds.specs.declared.Counts.{Counts}
-use Rattle.book.specs.declared.Verdict.{Verdict}
-use Rattle.book.specs.Verdicts.{refused, _orElse_, unless}
-use Rattle.book.specs.Layout.{mostRoutines, mostSignals, mostCounters}
-use Rattle.book.specs.Book.{countsOf, bookVerdict}
+use Rattle.layout.specs.declared.Verdict.{Verdict}
+use Rattle.layout.specs.Verdicts.{refused, _orElse_, unless}
+use Rattle.layout.specs.Layout.{mostRoutines, mostSignals, mostCounters, countsOf}
+use Rattle.book.specs.Book.{bookVerdict}
 use Rattle.game.specs.declared.Game.{Game}
 use Rattle.game.specs.Game.{routineAt, withStop, withSuspend, withResume, withStart, withStarting, withBroadcast, withRoutine}
-use Rattle.game.specs.Fitting.{fitsBook}
+use Rattle.fitting.specs.Fitting.{fitsBook}
 use Rattle.orders.specs.declared.Outcome.{Outcome}
 use Rattle.orders.specs.SetUp.{unlessRefused}
 

@@ -5,13 +5,14 @@ use mathlib.Core.List.{List}
 use lib.Dec.{eqb}
 use Rattle.numbers.specs.Choice.{if_then_else_}
 use Rattle.kinds.specs.declared.Counts.{Counts}
-use Rattle.book.specs.declared.Verdict.{Verdict}
-use Rattle.book.specs.Verdicts.{accepted}
-use Rattle.book.specs.Book.{countsOf, bookVerdict}
+use Rattle.layout.specs.declared.Verdict.{Verdict}
+use Rattle.layout.specs.Verdicts.{accepted}
+use Rattle.layout.specs.Layout.{countsOf}
+use Rattle.book.specs.Book.{bookVerdict}
 use Rattle.game.specs.declared.Game.{Game}
 use Rattle.game.specs.Lines.{empty, pushed}
 use Rattle.game.specs.Game.{blankFor, withStarting}
-use Rattle.game.specs.Fits.{Fits}
+use Rattle.fitting.specs.Fits.{Fits}
 use Rattle.orders.specs.declared.Outcome.{Outcome}
 
 -- a verdict, with the game given where nothing is turned down; "After a refusal game and mark buffer are as lent"

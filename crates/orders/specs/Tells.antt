@@ -1,13 +1,13 @@
 -- Why an order is turned down, or not: the clauses of document 01 that decide it.
 use Prim.Native.Nat.{ℕ, suc, _<_, _≤_}
 use mathlib.Core.List.{List}
-use Rattle.book.specs.declared.Verdict.{Verdict}
-use Rattle.book.specs.Verdicts.{accepted, refused}
-use Rattle.book.specs.Book.{countsOf}
+use Rattle.layout.specs.declared.Verdict.{Verdict}
+use Rattle.layout.specs.Verdicts.{accepted, refused}
+use Rattle.layout.specs.Layout.{countsOf}
 use Rattle.book.specs.Accepted.{Accepted}
 use Rattle.book.specs.Tells.{Tells}
 use Rattle.game.specs.declared.Game.{Game}
-use Rattle.game.specs.Fits.{Fits}
+use Rattle.fitting.specs.Fits.{Fits}
 use Rattle.orders.specs.Orders.{orderCount}
 
 -- "an order checks 1 to 7, then 9, 8"

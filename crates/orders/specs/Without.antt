@@ -3,7 +3,7 @@ use Prim.Native.Nat.{ℕ}
 use mathlib.Core.Bool.{false}
 use mathlib.Core.List.{[], _∷_, map}
 use lib.ListN.{getD, replicate}
-use Rattle.book.specs.Layout.{mostSignals}
+use Rattle.layout.specs.Layout.{mostSignals}
 use Rattle.game.specs.declared.Game.{Game}
 use Rattle.game.specs.Lines.{empty}
 use Rattle.game.specs.Game.{withFlags, withRoutines, withStarting, withBroadcast}

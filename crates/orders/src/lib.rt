@@ -1,25 +1,25 @@
 // Setting up a game, and outside orders. Document 01, "The game".
-use book::Verdict;
-use book::layout::MOST_COUNTERS;
-use book::layout::MOST_ROUTINES;
-use book::layout::MOST_SIGNALS;
-use book::layout::counts_of;
 use book::read_book;
 use book::verdict_of;
+use fitting::fits;
 use game::Game;
 use game::Line;
 use game::MOST_ENTRIES;
 use game::blank_routine;
-use game::fitting::fits;
 use game::lines::push;
 use game::lines::with_start;
 use game::with_resume;
 use game::with_stop;
 use game::with_suspend;
 use kinds::Counts;
+use layout::MOST_COUNTERS;
+use layout::MOST_ROUTINES;
+use layout::MOST_SIGNALS;
+use layout::Verdict;
+use layout::counts_of;
 ghost use mathlib.Core.Path.{_≡_};
 ghost use Prim.Native.Nat.{_<_};
-ghost use Rattle.book.specs.Verdicts.{refused};
+ghost use Rattle.layout.specs.Verdicts.{refused};
 ghost use Rattle.orders.specs.SetUp.{newGame, setUp, GivesFitting};
 ghost use Rattle.orders.specs.Orders.{orderCount, mostCounts, orderVerdict, obeyed, ordered};
 

@@ -8,13 +8,13 @@ use native.Mathlib.Omega.{arith}
 use native.Mathlib.Decide.{ℕ-discrete}
 use lib.ListN.{length, getD, set, length-set, length-map}
 use lib.Seq.{getD-set-same, getD-set-other, map-set-same}
-use Rattle.book.specs.Layout.{routinesOf}
+use Rattle.layout.specs.Layout.{routinesOf}
 use Rattle.book.specs.Accepted.{CountsInRange}
 use Rattle.game.specs.declared.Routine.{Routine}
 use Rattle.game.specs.declared.Game.{Game}
 use Rattle.game.specs.Lines.{empty, entriesOf, appended}
 use Rattle.game.specs.Game.{blank, routineAt, Sized}
-use Rattle.game.specs.Fits.{Fits}
+use Rattle.fitting.specs.Fits.{Fits}
 use Rattle.orders.proofs.Stores.{same-at}
 use Rattle.round.specs.Actions.{kept, each, positionOf, inStage1, inStage4, getsStopped, staysListed, withoutOrders, atStart}
 use Rattle.round.proofs.Along.{All}

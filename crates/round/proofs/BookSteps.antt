@@ -12,7 +12,7 @@ use borrow.Author.Tests.{eq-eqb, ne-eqb}
 use lib.Dec.{eqb}
 use Rattle.numbers.specs.Choice.{if_then_else_}
 use Rattle.kinds.specs.Steps.{opAt}
-use Rattle.book.specs.Layout.{mostSteps, routinesOf, stepsOf, firstStep, stepCount, stepsBefore}
+use Rattle.layout.specs.Layout.{mostSteps, routinesOf, stepsOf, firstStep, stepCount, stepsBefore}
 use Rattle.book.specs.Book.{stepsPart, routinePart, routineSteps}
 use Rattle.book.specs.Accepted.{Accepted}
 use Rattle.book.proofs.Parts.{same-taken, same-routine}

@@ -14,11 +14,12 @@ use Rattle.kinds.specs.declared.Step.the-variants as step
 use Rattle.kinds.specs.declared.Row.{Row}
 use Rattle.kinds.specs.Steps.{table, opAt, fieldA, fieldB, fieldN, stepAt}
 use Rattle.blocks.proofs.Scan.{Rows, _and_, step-holds, row-kind}
-use Rattle.book.specs.Book.{countsOf, routineSteps}
+use Rattle.layout.specs.Layout.{countsOf}
+use Rattle.book.specs.Book.{routineSteps}
 use Rattle.book.specs.Accepted.{Accepted}
 use Rattle.game.specs.declared.Game.{Game}
 use Rattle.game.specs.Game.{Sized}
-use Rattle.game.specs.Fits.{Fits}
+use Rattle.fitting.specs.Fits.{Fits}
 use Rattle.numbers.proofs.Tests.{by-test}
 use Rattle.round.specs.declared.Position.{Position}
 use Rattle.round.specs.declared.Effect.{Effect}

@@ -11,13 +11,13 @@ use native.Mathlib.Omega.{arith}
 use borrow.Author.Tests.{le-ltb, eq-eqb}
 use lib.ListN.{length}
 use lib.IntN.{ℤ}
-use Rattle.book.specs.declared.Verdict.{Verdict}
-use Rattle.book.specs.Verdicts.{accepted}
-use Rattle.book.specs.Layout.{routinesOf}
+use Rattle.layout.specs.declared.Verdict.{Verdict}
+use Rattle.layout.specs.Verdicts.{accepted}
+use Rattle.layout.specs.Layout.{routinesOf}
 use Rattle.book.specs.Accepted.{Accepted}
 use Rattle.game.specs.declared.Game.{Game}
 use Rattle.game.specs.Game.{continuing, rested, ended, notStarted, stopped, routineAt, Sized}
-use Rattle.game.specs.Fits.{Fits, In}
+use Rattle.fitting.specs.Fits.{Fits, In}
 use Rattle.round.specs.State.{State}
 use Rattle.round.specs.History.{Among}
 use Rattle.round.specs.Actions.{atStart}

@@ -13,13 +13,13 @@ use lib.ListN.{length}
 use Rattle.numbers.specs.Choice.{if_then_else_}
 use Rattle.numbers.proofs.Tests.{by-test}
 use Rattle.kinds.specs.declared.Counts.{Counts}
-use Rattle.book.specs.Layout.{routinesOf}
+use Rattle.layout.specs.Layout.{routinesOf}
 use Rattle.book.specs.Accepted.{Accepted}
 use Rattle.game.specs.declared.Routine.{Routine}
 use Rattle.game.specs.declared.Game.{Game}
 use Rattle.game.specs.Game.{continuing, routineAt, Sized}
 use Rattle.game.specs.Game as stage
-use Rattle.game.specs.Fits.{Fits}
+use Rattle.fitting.specs.Fits.{Fits}
 use Rattle.round.specs.declared.Ending.{Ending}
 use Rattle.round.specs.declared.Position.{Position}
 use Rattle.round.specs.State.{State, Happening, gave, ended, missing, past, marked, completed}

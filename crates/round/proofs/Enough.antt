@@ -8,12 +8,12 @@ use mathlib.Core.List.{List, [], _∷_}
 use native.Mathlib.Omega.{arith}
 use lib.ListN.{length}
 use Rattle.numbers.proofs.Tests.{by-test}
-use Rattle.book.specs.Layout.{mostRoutines, routinesOf, stepCount}
+use Rattle.layout.specs.Layout.{mostRoutines, routinesOf, stepCount}
 use Rattle.book.specs.Accepted.{Accepted}
 use Rattle.game.specs.declared.Game.{Game}
 use Rattle.game.specs.Game.{Sized}
-use Rattle.game.specs.Fits.{Fits}
-use Rattle.game.proofs.Decides.{fit-lists}
+use Rattle.fitting.specs.Fits.{Fits}
+use Rattle.fitting.proofs.Decides.{fit-lists}
 use Rattle.round.specs.State.{State}
 use Rattle.round.specs.History.{countBelow, stepsIn, howMany}
 use Rattle.round.specs.Actions.{atStart}

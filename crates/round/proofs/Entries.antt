@@ -14,16 +14,16 @@ use lib.ListN.{length, getD, length-set, length-append}
 use lib.Seq.{take-suc-set, length-take-le, getD-take}
 use Rattle.numbers.specs.Choice.{if_then_else_}
 use Rattle.numbers.proofs.Tests.{by-test}
-use Rattle.book.specs.Layout.{routinesOf}
+use Rattle.layout.specs.Layout.{routinesOf}
 use Rattle.book.specs.Accepted.{CountsInRange}
 use Rattle.game.specs.declared.Line.{Line}
 use Rattle.game.specs.declared.Game.{Game}
 use Rattle.game.specs.Lines.{mostEntries, itemAt, entriesOf, joined, pushed, appended}
 use Rattle.game.specs.Game.{Sized}
-use Rattle.game.specs.Fits.{Fits}
-use Rattle.game.proofs.Lists.{LineRight, used-all}
-use Rattle.game.proofs.Decides.{fit-lists}
-use Rattle.game.proofs.Room.{few}
+use Rattle.fitting.specs.Fits.{Fits}
+use Rattle.fitting.proofs.Lists.{LineRight, used-all}
+use Rattle.fitting.proofs.Decides.{fit-lists}
+use Rattle.fitting.proofs.Room.{few}
 use Rattle.round.specs.Actions.{kept}
 use Rattle.round.proofs.Along.{All}
 

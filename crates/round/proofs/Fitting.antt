@@ -10,12 +10,11 @@ use lib.Dec.{ltb}
 use lib.ListN.{length, getD, length-set, List·getD-eq-default}
 use lib.IntN.{ℤ, pos}
 use Rattle.numbers.proofs.Tests.{by-test}
-use Rattle.book.specs.Layout.{mostCounters, countersOf}
-use Rattle.book.specs.Book.{countsOf}
+use Rattle.layout.specs.Layout.{mostCounters, countersOf, countsOf}
 use Rattle.book.specs.Accepted.{Accepted}
 use Rattle.game.specs.declared.Game.{Game}
 use Rattle.game.specs.Game.{withCounter, Sized}
-use Rattle.game.specs.Fits.{Fits}
+use Rattle.fitting.specs.Fits.{Fits}
 use Rattle.orders.specs.Orders.{orderCount, obeyed}
 use Rattle.orders.proofs.Obeyed.{obeyed-fits, obeyed-sized}
 use Rattle.orders.proofs.Stores.{set-each}

@@ -12,7 +12,8 @@ use lib.ListN.{length, length-append}
 use lib.IntN.{ℤ}
 use Rattle.numbers.proofs.Tests.{by-test}
 use Rattle.kinds.specs.declared.Counts.{Counts}
-use Rattle.book.specs.Book.{countsOf, routineSteps}
+use Rattle.layout.specs.Layout.{countsOf}
+use Rattle.book.specs.Book.{routineSteps}
 use Rattle.game.specs.declared.Game.{Game}
 use Rattle.round.specs.declared.Position.{Position}
 use Rattle.round.specs.declared.Effect.{Effect}

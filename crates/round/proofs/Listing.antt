@@ -14,8 +14,8 @@ use lib.Seq.{getD-set-other}
 use Rattle.numbers.proofs.Tests.{by-test}
 use Rattle.game.specs.declared.Line.{Line}
 use Rattle.game.specs.Lines.{mostEntries, empty, itemAt, entriesOf, joined, appended}
-use Rattle.game.specs.Fits.{In}
-use Rattle.game.proofs.Lists.{LineRight}
+use Rattle.fitting.specs.Fits.{In}
+use Rattle.fitting.proofs.Lists.{LineRight}
 use Rattle.round.specs.Actions.{kept}
 use Rattle.round.proofs.Histories.{somewhere-append}
 use Rattle.round.proofs.Along.{All, among-all, Distinct}

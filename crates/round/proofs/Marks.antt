@@ -14,8 +14,8 @@ use Rattle.kinds.specs.declared.Step.the-variants as step
 use Rattle.kinds.specs.declared.Counts.{Counts}
 use Rattle.kinds.specs.Steps.{rowOf, opAt, fieldA, fieldB, fieldN, stepAt}
 use Rattle.blocks.proofs.Scan.{row-kind}
-use Rattle.book.specs.Layout.{stepsOf}
-use Rattle.book.specs.Book.{countsOf, stepsPart}
+use Rattle.layout.specs.Layout.{stepsOf, countsOf}
+use Rattle.book.specs.Book.{stepsPart}
 use Rattle.book.specs.Accepted.{Accepted}
 use Rattle.book.proofs.Laws.{step-kind}
 use Rattle.round.specs.Answers.{opMark, markSteps}

@@ -10,7 +10,7 @@ use lib.ListN.{length}
 use Rattle.book.specs.Accepted.{Accepted}
 use Rattle.game.specs.declared.Game.{Game}
 use Rattle.game.specs.Game.{Sized}
-use Rattle.game.specs.Fits.{Fits}
+use Rattle.fitting.specs.Fits.{Fits}
 use Rattle.round.specs.History.{stepsIn, howMany}
 use Rattle.round.specs.Actions.{atStart}
 use Rattle.round.specs.Rounds.{mostPasses, listedIn, round, historyOf}

@@ -8,7 +8,7 @@ use native.Mathlib.Decide.{ℕ-discrete}
 use native.Mathlib.Omega.{arith}
 use borrow.Author.Tests.{eq-eqb, ne-eqb}
 use lib.Dec.{eqb}
-use Rattle.book.specs.Layout.{stepCount}
+use Rattle.layout.specs.Layout.{stepCount}
 use Rattle.round.specs.History.{countBelow, stepsIn, Among}
 use Rattle.round.specs.Completed.{theStep}
 use Rattle.round.proofs.Along.{Distinct}

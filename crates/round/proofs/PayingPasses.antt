@@ -8,7 +8,7 @@ use mathlib.Core.List.{List, [], _∷_, _++_}
 use mathlib.Core.Logic.{_≢_, inl, inr}
 use native.Mathlib.Decide.{ℕ-discrete}
 use native.Mathlib.Omega.{arith}
-use Rattle.book.specs.Layout.{routinesOf}
+use Rattle.layout.specs.Layout.{routinesOf}
 use Rattle.round.specs.State.{State, Happening}
 use Rattle.round.specs.History.{howMany, Among}
 use Rattle.round.specs.Rounds.{again, turn, pass, instant}

@@ -4,9 +4,9 @@ use mathlib.Core.Path.{_≡_}
 use mathlib.Core.List.{List}
 use Prim.Native.Nat.{ℕ}
 use lib.ListN.{length}
-use Rattle.book.specs.Layout.{mostRoutines, mostSignals}
+use Rattle.layout.specs.Layout.{mostRoutines, mostSignals}
 use Rattle.game.specs.Game.{Sized}
-use Rattle.game.specs.Fits.{Fits}
+use Rattle.fitting.specs.Fits.{Fits}
 use Rattle.round.specs.State.{State}
 use Rattle.round.proofs.Acts.{InRange, EachNumber}
 

@@ -9,16 +9,16 @@ use mathlib.Core.Logic.{_⊎_, inl, inr, ⊎-elim}
 use native.Mathlib.Omega.{arith}
 use lib.Dec.{eqb}
 use lib.ListN.{length, getD, length-map, getD-replicate, length-replicate, List·getD-map}
-use Rattle.book.specs.Layout.{mostRoutines, mostSignals, routinesOf}
+use Rattle.layout.specs.Layout.{mostRoutines, mostSignals, routinesOf}
 use Rattle.book.specs.Accepted.{CountsInRange, Accepted}
 use Rattle.game.specs.declared.Routine.{Routine}
 use Rattle.game.specs.declared.Game.{Game}
 use Rattle.game.specs.Lines.{mostEntries, entriesOf}
 use Rattle.game.specs.Game.{continuing, rested, ended, stopped, blank, routineAt, Sized}
-use Rattle.game.specs.Fits.{In, Fits}
-use Rattle.game.proofs.Lists.{LineRight}
-use Rattle.game.proofs.Routines.{UnderWay}
-use Rattle.game.proofs.Decides.{fit-lists}
+use Rattle.fitting.specs.Fits.{In, Fits}
+use Rattle.fitting.proofs.Lists.{LineRight}
+use Rattle.fitting.proofs.Routines.{UnderWay}
+use Rattle.fitting.proofs.Decides.{fit-lists}
 use Rattle.round.specs.declared.Position.{Position}
 use Rattle.round.specs.Actions.{kept, each, inStage1, inStage4, getsStopped, staysListed, withoutOrders, atStart}
 use Rattle.round.proofs.Histories.{in-first, in-second}

@@ -8,13 +8,13 @@ use mathlib.Core.Logic.{_⊎_, inl, inr}
 use native.Mathlib.Omega.{arith}
 use lib.ListN.{length, length-set}
 use Rattle.blocks.proofs.Views.{standing-below}
-use Rattle.book.specs.Layout.{mostRoutines, routinesOf, stepCount}
-use Rattle.book.specs.Book.{countsOf, routineSteps}
+use Rattle.layout.specs.Layout.{mostRoutines, routinesOf, stepCount, countsOf}
+use Rattle.book.specs.Book.{routineSteps}
 use Rattle.book.specs.Accepted.{Accepted}
 use Rattle.kinds.specs.Steps.{stepAt}
 use Rattle.kinds.specs.Timed.{Timed}
 use Rattle.game.specs.Game.{notStarted, continuing, rested, ended, stopped, blank, routineAt, withRoutine}
-use Rattle.game.specs.Fits.{In}
+use Rattle.fitting.specs.Fits.{In}
 use Rattle.orders.proofs.Stores.{set-each}
 use Rattle.round.specs.declared.Ending.{Ending}
 use Rattle.round.specs.declared.Ending.the-variants.{Ended, Rested, Missed, Continued}

@@ -9,12 +9,12 @@ use native.Mathlib.Decide.{ℕ-discrete, decLt}
 use borrow.Author.Tests.{eq-eqb, ne-eqb, le-leb, lt-leb, lt-ltb, le-ltb}
 use lib.ListN.{length}
 use lib.IntN.{ℤ}
-use Rattle.book.specs.declared.Verdict.{Verdict}
+use Rattle.layout.specs.declared.Verdict.{Verdict}
 use Rattle.book.specs.Accepted.{Accepted}
-use Rattle.book.proofs.First.{orElse-told}
+use Rattle.layout.proofs.First.{orElse-told}
 use Rattle.book.proofs.Telling.{told-only}
 use Rattle.game.specs.declared.Game.{Game}
-use Rattle.game.specs.Fits.{Fits}
+use Rattle.fitting.specs.Fits.{Fits}
 use Rattle.orders.proofs.Telling.{unfit-told, past-fit, by-fit}
 use Rattle.round.specs.Ticks.{mostNumbers}
 use Rattle.round.specs.Rounds.{round}

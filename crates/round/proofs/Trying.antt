@@ -6,7 +6,8 @@ use mathlib.Core.Path.{_≡_, refl, sym, _∙_}
 use mathlib.Core.Bool.{Bool, true, false, true≢false}
 use mathlib.Core.List.{List, [], _∷_, _++_}
 use mathlib.Core.Logic.{_↔_, Iff·symm, Iff·trans, _⊎_, inl, inr, ⊎-map, ⊎-elim}
-use Rattle.book.specs.Book.{countsOf, routineSteps}
+use Rattle.layout.specs.Layout.{countsOf}
+use Rattle.book.specs.Book.{routineSteps}
 use Rattle.book.specs.Accepted.{Accepted}
 use Rattle.round.specs.declared.Position.{Position}
 use Rattle.round.specs.declared.Ending.{Ending}

@@ -8,7 +8,8 @@ use mathlib.Core.List.{List, [], _∷_, _++_}
 use mathlib.Core.Logic.{_≢_}
 use lib.Dec.{eqb}
 use Rattle.kinds.specs.Steps.{stepAt}
-use Rattle.book.specs.Book.{countsOf, routineSteps}
+use Rattle.layout.specs.Layout.{countsOf}
+use Rattle.book.specs.Book.{routineSteps}
 use Rattle.game.specs.declared.Routine.{Routine}
 use Rattle.game.specs.declared.Game.{Game}
 use Rattle.game.specs.Game.{continuing, routineAt}

@@ -5,7 +5,7 @@ use mathlib.Core.List.{List, [], _∷_, map}
 use lib.Dec.{eqb}
 use lib.ListN.{getD, set, replicate}
 use Rattle.numbers.specs.Choice.{if_then_else_}
-use Rattle.book.specs.Layout.{mostSignals}
+use Rattle.layout.specs.Layout.{mostSignals}
 use Rattle.game.specs.declared.Routine.{Routine}
 use Rattle.game.specs.declared.Game.{Game}
 use Rattle.game.specs.Lines.{empty, entriesOf, appended}

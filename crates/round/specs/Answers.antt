@@ -7,9 +7,9 @@ use lib.ListN.{length, drop}
 use lib.IntN.{ℤ, pos}
 use Rattle.numbers.specs.Choice.{if_then_else_}
 use Rattle.kinds.specs.Steps.{opAt}
-use Rattle.book.specs.declared.Verdict.{Verdict}
-use Rattle.book.specs.Verdicts.{refused, _orElse_, unless}
-use Rattle.book.specs.Layout.{stepsOf}
+use Rattle.layout.specs.declared.Verdict.{Verdict}
+use Rattle.layout.specs.Verdicts.{refused, _orElse_, unless}
+use Rattle.layout.specs.Layout.{stepsOf}
 use Rattle.book.specs.Book.{stepsPart, bookVerdict}
 use Rattle.game.specs.declared.Game.{Game}
 use Rattle.orders.specs.Orders.{fitVerdict}

@@ -5,7 +5,7 @@ use mathlib.Core.List.{List}
 use lib.Dec.{eqb}
 use lib.ListN.{length}
 use Rattle.kinds.specs.Steps.{opAt}
-use Rattle.book.specs.Layout.{mostSteps}
+use Rattle.layout.specs.Layout.{mostSteps}
 use Rattle.book.specs.Book.{routineSteps}
 use Rattle.game.specs.declared.Game.{Game}
 use Rattle.round.specs.State.{Happening, gave, ended, missing, past, marked, completed}

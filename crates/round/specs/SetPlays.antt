@@ -7,16 +7,16 @@ use lib.ListN.{take, replicate}
 use lib.IntN.{ℤ, pos, negsuc}
 use Rattle.kinds.specs.Steps.{rowOf, decoded, stepAt}
 use Rattle.blocks.specs.Blocks.{viewAt, blockBy, stepOf, routineOf, partnerOf}
-use Rattle.book.specs.declared.Verdict.{Verdict}
-use Rattle.book.specs.Verdicts.{accepted, firstRefusal}
-use Rattle.book.specs.Layout.{mostRoutines, mostSignals, mostCounters, layoutVerdict, stepsBefore, directoryVerdict}
+use Rattle.layout.specs.declared.Verdict.{Verdict}
+use Rattle.layout.specs.Verdicts.{accepted, firstRefusal}
+use Rattle.layout.specs.Layout.{mostRoutines, mostSignals, mostCounters, layoutVerdict, stepsBefore, directoryVerdict}
 use Rattle.book.specs.Book.{stepsVerdict, routinePart, routineWalk, nestingVerdict, pausingVerdict, bookVerdict}
 use Rattle.book.specs.Examples as document
 use Rattle.game.specs.declared.Game.{Game}
 use Rattle.game.specs.Below.{allBelow, anyBelow}
 use Rattle.game.specs.Lines.{empty, isIn, pushed, entriesOf, appended}
 use Rattle.game.specs.Game.{rested, stopped, blank, blankGame, withStart}
-use Rattle.game.specs.Fitting.{routineFits, slotFits, entryFits, lineFits, countersFit, signalsFit, fitsBook}
+use Rattle.fitting.specs.Fitting.{routineFits, slotFits, entryFits, lineFits, countersFit, signalsFit, fitsBook}
 use Rattle.orders.specs.SetUp.{newGame, setUp}
 use Rattle.round.specs.State.{numbersWith, isEndThere, isThere}
 use Rattle.round.specs.History.{countBelow}

@@ -7,7 +7,8 @@ use mathlib.Core.Logic.{_⊎_}
 use Rattle.kinds.specs.declared.Step.{Step}
 use Rattle.kinds.specs.Steps.{stepAt}
 use Rattle.kinds.specs.Timed.{Timed, restFor, waitFor, joinFor}
-use Rattle.book.specs.Book.{countsOf, routineSteps}
+use Rattle.layout.specs.Layout.{countsOf}
+use Rattle.book.specs.Book.{routineSteps}
 use Rattle.game.specs.declared.Game.{Game}
 use Rattle.game.specs.Game.{rested, routineAt}
 use Rattle.round.specs.declared.Ending.{Ending}

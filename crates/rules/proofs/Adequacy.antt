@@ -9,13 +9,13 @@ use native.Mathlib.Decide.{decLt}
 use native.Mathlib.Omega.{arith}
 use lib.ListN.{length, drop}
 use lib.IntN.{ℤ}
-use Rattle.book.specs.declared.Verdict.{Verdict}
-use Rattle.book.specs.Verdicts.{accepted}
-use Rattle.book.specs.Layout.{routinesOf}
+use Rattle.layout.specs.declared.Verdict.{Verdict}
+use Rattle.layout.specs.Verdicts.{accepted}
+use Rattle.layout.specs.Layout.{routinesOf}
 use Rattle.book.specs.Accepted.{Accepted}
 use Rattle.game.specs.declared.Game.{Game}
 use Rattle.game.specs.Game.{routineAt, Sized}
-use Rattle.game.specs.Fits.{Fits}
+use Rattle.fitting.specs.Fits.{Fits}
 use Rattle.round.specs.declared.Position.{Position}
 use Rattle.round.specs.State.{State}
 use Rattle.round.specs.Actions.{positionOf}

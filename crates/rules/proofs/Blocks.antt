@@ -22,7 +22,7 @@ use Rattle.kinds.specs.Steps.{stepAt}
 use Rattle.blocks.specs.Blocks.{View, stands, viewAt}
 use Rattle.blocks.specs.Parse.{ParsedBlock, empty, more, ParsedStep, plain, pausing, ifOnly, ifElse, loop}
 use Rattle.blocks.proofs.Parses.{block-goes, step-goes}
-use Rattle.book.specs.Layout.{mostRoutines}
+use Rattle.layout.specs.Layout.{mostRoutines}
 use Rattle.game.specs.Game.{counterAt}
 use Rattle.round.specs.declared.Ending.{Ending}
 use Rattle.round.specs.declared.Position.{Position}

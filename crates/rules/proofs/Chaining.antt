@@ -8,7 +8,7 @@ use lib.ListN.{length, replicate}
 use lib.IntN.{ℤ}
 use Rattle.book.specs.Accepted.{CountsInRange}
 use Rattle.game.specs.Game.{Sized}
-use Rattle.game.specs.Fits.{Fits}
+use Rattle.fitting.specs.Fits.{Fits}
 use Rattle.round.specs.State.{State}
 use Rattle.round.specs.Actions.{atStart}
 use Rattle.round.proofs.Entries.{joined-entries}

@@ -13,14 +13,14 @@ use lib.IntN.{ℤ}
 use Rattle.numbers.specs.Choice.{if_then_else_}
 use Rattle.numbers.specs.declared.Sum.{Sum}
 use Rattle.numbers.proofs.Tests.{and-both, by-test}
-use Rattle.book.specs.Layout.{mostRoutines}
+use Rattle.layout.specs.Layout.{mostRoutines}
 use Rattle.game.specs.declared.Routine.{Routine}
 use Rattle.game.specs.Lines.{isIn, pushed, entriesOf}
 use Rattle.game.specs.Game.{notStarted, blank, routineAt, withFlags, withRoutine, withStarting}
 use Rattle.game.specs.Game as game
-use Rattle.game.specs.Fits.{In}
-use Rattle.game.proofs.Lists.{is-in}
-use Rattle.game.proofs.Room.{room}
+use Rattle.fitting.specs.Fits.{In}
+use Rattle.fitting.proofs.Lists.{is-in}
+use Rattle.fitting.proofs.Room.{room}
 use Rattle.orders.proofs.Stores.{map-set}
 use Rattle.round.specs.declared.Effect.the-variants.{Nothing, Mark, Put, Add, Give, GiveNumber, Start, Stop, Suspend, Resume}
 use Rattle.round.specs.State.{State, withGame}

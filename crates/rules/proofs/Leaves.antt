@@ -13,7 +13,7 @@ use lib.Dec.{eqb}
 use Rattle.numbers.specs.Numbers.{sumOf}
 use Rattle.numbers.proofs.Sums.{adds-up}
 use Rattle.numbers.proofs.Tests.{and-both, by-test}
-use Rattle.book.specs.Layout.{mostRoutines}
+use Rattle.layout.specs.Layout.{mostRoutines}
 use Rattle.kinds.specs.declared.Kind.{Kind}
 use Rattle.kinds.specs.declared.Kind.the-variants as kind
 use Rattle.kinds.specs.declared.Step.the-variants as step

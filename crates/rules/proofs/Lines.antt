@@ -13,7 +13,7 @@ use lib.Seq.{take-suc}
 use Rattle.game.specs.declared.Line.{Line}
 use Rattle.game.specs.Below.{anyBelow}
 use Rattle.game.specs.Lines.{mostEntries, usedOf, isIn, entriesOf}
-use Rattle.game.proofs.Lists.{LineRight, used-all}
+use Rattle.fitting.proofs.Lists.{LineRight, used-all}
 use Rattle.rules.specs.Schedulers.{isAmong}
 
 -- a routine among some, and in a list

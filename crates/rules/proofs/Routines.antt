@@ -7,8 +7,8 @@ use Rattle.kinds.specs.declared.Step.{Step}
 use Rattle.kinds.specs.Steps.{stepAt}
 use Rattle.blocks.specs.Blocks.{View, viewAt, deepest}
 use Rattle.blocks.specs.Parse.{ParsedBlock}
-use Rattle.book.specs.Layout.{routinesOf}
-use Rattle.book.specs.Book.{countsOf, routineSteps}
+use Rattle.layout.specs.Layout.{routinesOf, countsOf}
+use Rattle.book.specs.Book.{routineSteps}
 use Rattle.book.specs.Accepted.{Accepted}
 use Rattle.book.proofs.Laws.{own-places}
 use Rattle.round.specs.declared.Ending.{Ending}

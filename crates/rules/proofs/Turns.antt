@@ -10,7 +10,7 @@ use Rattle.kinds.specs.Steps.{stepAt}
 use Rattle.kinds.proofs.Readable.{step-missing}
 use Rattle.blocks.specs.Blocks.{View, viewAt}
 use Rattle.blocks.specs.Parse.{ParsedBlock}
-use Rattle.book.specs.Layout.{mostRoutines}
+use Rattle.layout.specs.Layout.{mostRoutines}
 use Rattle.round.specs.declared.Ending.{Ending}
 use Rattle.round.specs.declared.Ending.the-variants.{Ended}
 use Rattle.round.specs.declared.Position.{Position}

@@ -8,7 +8,7 @@ use lib.ListN.{length}
 use lib.IntN.{ℤ}
 use Rattle.kinds.specs.declared.Counts.{Counts}
 use Rattle.game.specs.Lines.{mostEntries}
-use Rattle.game.proofs.Lists.{LineRight}
+use Rattle.fitting.proofs.Lists.{LineRight}
 use Rattle.round.specs.declared.Ending.{Ending}
 use Rattle.round.specs.declared.Ending.the-variants.{Ended, Rested, Missed, Continued}
 use Rattle.round.specs.declared.Position.{Position}

@@ -3,8 +3,8 @@
 use mathlib.Core.Path.{_≡_, sym, ap, _∙_}
 use borrow.Author.Needs.{needs}
 use borrow.Author.Tests.{ne-eqb}
-use Rattle.book.specs.Verdicts.{accepted, verdictOf}
-use Rattle.book.specs.Layout.{layoutVerdict, directoryVerdict}
+use Rattle.layout.specs.Verdicts.{accepted, verdictOf}
+use Rattle.layout.specs.Layout.{layoutVerdict, directoryVerdict}
 use Rattle.book.specs.Book.{stepsVerdict, bookVerdict}
 use Rattle.book.proofs.Answers.{refuses}
 use Rattle.book.proofs.read_book.Statement.{statement}

@@ -4,7 +4,7 @@ use Prim.Native.Nat.{_≤_, _<_}
 use native.Mathlib.Omega.{arith}
 use borrow.Author.Needs.{needs}
 use lib.ListN.{List·getD-eq-default}
-use Rattle.book.specs.Layout.{mostRoutines}
+use Rattle.layout.specs.Layout.{mostRoutines}
 use Rattle.orders.specs.Orders.{obeyed}
 use Rattle.orders.proofs.Counts.{in-signals, in-routines}
 use Rattle.orders.proofs.obey.Statement.{statement}

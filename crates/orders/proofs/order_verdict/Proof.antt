@@ -3,8 +3,9 @@ use mathlib.Core.Path.{_≡_, sym, ap, _∙_}
 use borrow.Author.Needs.{needs}
 use borrow.Author.Tests.{eq-eqb, ne-eqb, le-ltb, lt-ltb, not-true, not-false}
 use lib.Dec.{ltb}
-use Rattle.book.specs.Verdicts.{refused, _orElse_, unless}
-use Rattle.book.specs.Book.{countsOf, bookVerdict}
+use Rattle.layout.specs.Verdicts.{refused, _orElse_, unless}
+use Rattle.layout.specs.Layout.{countsOf}
+use Rattle.book.specs.Book.{bookVerdict}
 use Rattle.book.specs.Tells.{nothing}
 use Rattle.book.proofs.Telling.{told-only, number-accepted}
 use Rattle.orders.specs.Orders.{orderCount, orderVerdict}

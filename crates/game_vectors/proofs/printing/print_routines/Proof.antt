@@ -2,7 +2,7 @@
 -- The measure is what is left of them.
 use Prim.Native.Nat.{_≤_, _-_}
 use borrow.Author.Needs.{needs}
-use Rattle.book.specs.Layout.{mostRoutines}
+use Rattle.layout.specs.Layout.{mostRoutines}
 use Rattle.game_vectors.proofs.printing.print_routines.Statement.{statement}
 use Rattle.game_vectors.proofs.printing.print_routines.Tie as tie
 

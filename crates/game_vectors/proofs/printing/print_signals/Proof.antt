@@ -2,7 +2,7 @@
 -- The measure is what is left of them.
 use Prim.Native.Nat.{_≤_, _-_}
 use borrow.Author.Needs.{needs}
-use Rattle.book.specs.Layout.{mostSignals}
+use Rattle.layout.specs.Layout.{mostSignals}
 use Rattle.game_vectors.proofs.printing.print_signals.Statement.{statement}
 use Rattle.game_vectors.proofs.printing.print_signals.Tie as tie
 

@@ -1,0 +1,50 @@
+-- Where the directory keeps its rule, the routines lie one behind another, each within the steps of the book and its bytes within the book.
+-- By the sums of the counts, which only grow. Where the book ends before an entry, the entry reads 0.
+use Prim.Native.Nat.{ℕ, zero, suc, _+_, _*_, _/_, _≤_, _<_}
+use mathlib.Core.Path.{_≡_}
+use mathlib.Core.List.{List}
+use native.Mathlib.Omega.{arith}
+use native.Mathlib.Decide.{ℕ-discrete}
+use borrow.Author.Tests.{le-leb}
+use lib.ListN.{length, List·getD-eq-default}
+use Rattle.numbers.specs.Numbers.{halfAt}
+use Rattle.kinds.specs.Steps.{stepBytes}
+use Rattle.layout.specs.Layout.{headerBytes, entryBytes, routinesOf, stepsOf, stepsFrom, firstStep, stepCount, stepsBefore}
+use Rattle.layout.specs.Layout.{routineFrom, routineStepsFrom}
+
+-- the numbers of routine r's entry, in a book without bytes there
+pub entry-missing : (s : List ℕ) {r : ℕ} (k : ℕ) → length s / entryBytes ≤ r → halfAt s (headerBytes + k + entryBytes * r) ≡ 0
+entry-missing s {r} k h =
+    let at = headerBytes + k + entryBytes * r in
+    rw (List·getD-eq-default s 0 {n = at} (omega arith), List·getD-eq-default s 0 {n = at + 1} (omega arith))
+
+-- a routine that begins in the book has its steps there
+pub begins-there : (s : List ℕ) (r : ℕ) → routineFrom s r ≤ length s → routineStepsFrom s r ≡ routineFrom s r
+unfolding routineStepsFrom
+begins-there s r h = rw (le-leb _ _ h)
+
+-- the first n entries keep the directory's rule
+abbrev pub Entries : List ℕ → ℕ → Type 0
+Entries s n = (r : ℕ) → r < n → firstStep s r ≡ stepsBefore s r
+
+module _ (s : List ℕ) where
+  pub before-grows : (a b : ℕ) → a ≤ b → stepsBefore s a ≤ stepsBefore s b
+  unfolding stepsBefore
+  before-grows a zero h = let e : a ≡ 0 = omega arith in rw e (omega arith)
+  before-grows a (suc b) h =
+      elim (ℕ-discrete a (suc b)) [
+        | yes e ↦ rw e (omega arith)
+        | no n ↦ omega (arith, before-grows a b (omega arith))
+      ]
+
+  module _ (entries : Entries s (routinesOf s)) (total : stepsBefore s (routinesOf s) ≡ stepsOf s) where
+    pub routine-within : (r : ℕ) → r < routinesOf s → firstStep s r + stepCount s r ≤ stepsOf s
+    unfolding stepsBefore
+    routine-within r h = omega (arith, entries r h, before-grows (suc r) (routinesOf s) h)
+
+    module _ (size : length s ≡ stepsFrom s + stepBytes * stepsOf s) where
+      pub routine-end : (r : ℕ) → r < routinesOf s → stepsFrom s + stepBytes * (firstStep s r + stepCount s r) ≤ length s
+      routine-end r h = omega (arith, routine-within r h)
+
+      pub routine-start : (r : ℕ) → r < routinesOf s → routineFrom s r ≤ length s
+      routine-start r h = omega (arith, routine-end r h)

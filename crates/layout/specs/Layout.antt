@@ -1,0 +1,100 @@
+-- The header and the directory of a book: document 01, "The book", and refusals 1 to 4.
+use Prim.Native.Nat.{ℕ, zero, suc, _+_, _*_}
+use mathlib.Core.Bool.{Bool, _&&_}
+use mathlib.Core.List.{List}
+use lib.Dec.{leb, eqb}
+use lib.ListN.{length}
+use Rattle.numbers.specs.Numbers.{halfAt}
+use Rattle.kinds.specs.Steps.{stepBytes}
+use Rattle.layout.specs.declared.Verdict.{Verdict}
+use Rattle.layout.specs.Verdicts.{refused, _orElse_, unless, firstRefusal}
+use Rattle.numbers.specs.Choice.{if_then_else_}
+use Rattle.kinds.specs.declared.Counts.{Counts}
+
+-- "Header of 12 bytes: routines R (1 to 64), steps S (0 to 1,024), signals E (0 to 64), counters C (0 to 64)"
+abbrev pub headerBytes : ℕ
+headerBytes = 12
+
+abbrev pub mostRoutines : ℕ
+mostRoutines = 64
+
+abbrev pub mostSteps : ℕ
+mostSteps = 1024
+
+abbrev pub mostSignals : ℕ
+mostSignals = 64
+
+abbrev pub mostCounters : ℕ
+mostCounters = 64
+
+abbrev pub routinesOf : List ℕ → ℕ
+routinesOf s = halfAt s 0
+
+abbrev pub stepsOf : List ℕ → ℕ
+stepsOf s = halfAt s 2
+
+abbrev pub signalsOf : List ℕ → ℕ
+signalsOf s = halfAt s 4
+
+abbrev pub countersOf : List ℕ → ℕ
+countersOf s = halfAt s 6
+
+-- each count in its range
+abbrev pub countsFit : List ℕ → Bool
+countsFit s =
+    leb 1 (routinesOf s)
+    && leb (routinesOf s) mostRoutines
+    && leb (stepsOf s) mostSteps
+    && leb (signalsOf s) mostSignals
+    && leb (countersOf s) mostCounters
+
+-- "Directory: R entries, first step and step count", each of 16 bits
+abbrev pub entryBytes : ℕ
+entryBytes = 4
+
+-- "offset of the directory (12), offset of the steps (12 + 4R)"
+abbrev pub stepsFrom : List ℕ → ℕ
+stepsFrom s = headerBytes + entryBytes * routinesOf s
+
+-- "The length is exactly 12 + 4R + 8S."
+abbrev pub layoutFits : List ℕ → Bool
+layoutFits s =
+    eqb (halfAt s 8) headerBytes && eqb (halfAt s 10) (stepsFrom s) && eqb (length s) (stepsFrom s + stepBytes * stepsOf s)
+
+-- 1. "Fewer than 12 bytes (place 0)." 2. "A count outside its range (place 0)." 3. "An offset or the length is wrong (place 0)."
+unfoldable pub layoutVerdict : List ℕ → Verdict
+layoutVerdict s =
+    unless (leb headerBytes (length s)) (refused 1 0) orElse unless (countsFit s) (refused 2 0) orElse unless (layoutFits s) (refused 3 0)
+
+-- routine r's entry of the directory
+abbrev pub firstStep : List ℕ → ℕ → ℕ
+firstStep s r = halfAt s (headerBytes + entryBytes * r)
+
+abbrev pub stepCount : List ℕ → ℕ → ℕ
+stepCount s r = halfAt s (headerBytes + 2 + entryBytes * r)
+
+-- the sum of the counts before routine r; it does not wrap
+unfoldable pub stepsBefore : List ℕ → ℕ → ℕ
+stepsBefore s zero = 0
+stepsBefore s (suc r) = stepsBefore s r + stepCount s r
+
+-- 4. "place is the first routine whose first step isn't the sum of the counts before it, or R if only the total isn't S"
+abbrev pub entryVerdict : List ℕ → ℕ → Verdict
+entryVerdict s r = unless (eqb (firstStep s r) (stepsBefore s r)) (refused 4 r)
+
+unfoldable pub directoryVerdict : List ℕ → Verdict
+directoryVerdict s =
+    firstRefusal (entryVerdict s) (routinesOf s) 0
+    orElse unless (eqb (stepsBefore s (routinesOf s)) (stepsOf s)) (refused 4 (routinesOf s))
+
+-- the numbers R, E and C, which the fields of a step are held against
+abbrev pub countsOf : List ℕ → Counts
+countsOf s = record { routines = routinesOf s; signals = signalsOf s; counters = countersOf s }
+
+-- the byte of the book where the steps of routine r begin
+abbrev pub routineFrom : List ℕ → ℕ → ℕ
+routineFrom s r = stepsFrom s + stepBytes * firstStep s r
+
+-- the byte of the book where that part begins; 0 for a routine that begins past the book's end, of which no step is there
+unfoldable pub routineStepsFrom : List ℕ → ℕ → ℕ
+routineStepsFrom s r = if leb (routineFrom s r) (length s) then routineFrom s r else 0

@@ -1,0 +1,41 @@
+-- What reading a book answers: document 01, "Turned down because of the input".
+use Prim.Native.Nat.{ℕ, zero, suc, _+_}
+use mathlib.Core.Bool.{Bool}
+use lib.Dec.{eqb}
+use Rattle.numbers.specs.Choice.{if_then_else_}
+use Rattle.layout.specs.declared.Verdict.{Verdict}
+use Rattle.layout.specs.declared.Answer.{Answer}
+use Rattle.layout.specs.declared.Answer.the-variants.{Accepted, TooShort, WrongCount, WrongLayout, WrongEntry, WrongStep}
+use Rattle.layout.specs.declared.Answer.the-variants.{WrongNesting, WithoutPause}
+
+-- "both 0 where nothing is turned down"
+abbrev pub accepted : Verdict
+accepted = record { number = 0; place = 0 }
+
+abbrev pub refused : ℕ → ℕ → Verdict
+refused k p = record { number = k; place = p }
+
+-- the number and the place of each answer
+abbrev pub verdictOf : Answer → Verdict
+verdictOf Accepted = accepted
+verdictOf TooShort = refused 1 0
+verdictOf WrongCount = refused 2 0
+verdictOf WrongLayout = refused 3 0
+verdictOf (WrongEntry r) = refused 4 r
+verdictOf (WrongStep i) = refused 5 i
+verdictOf (WrongNesting i) = refused 6 i
+verdictOf (WithoutPause i) = refused 7 i
+
+-- "Checked in this order .. the first that applies is told."
+infixr 2 _orElse_
+abbrev pub _orElse_ : Verdict → Verdict → Verdict
+v orElse w = if eqb (v .number) 0 then w else v
+
+-- a refusal, unless a test holds
+abbrev pub unless : Bool → Verdict → Verdict
+unless fine v = if fine then accepted else v
+
+-- the first refusal among those of n places from i on
+unfoldable pub firstRefusal : (ℕ → Verdict) → ℕ → ℕ → Verdict
+firstRefusal at zero i = accepted
+firstRefusal at (suc n) i = at i orElse firstRefusal at n (i + 1)
