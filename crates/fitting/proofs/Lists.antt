@@ -1,18 +1,23 @@
 -- A list of routines passes its test exactly where its entries are routines, none of them twice, with nothing behind its length.
 -- By the test at each entry; the search for an entry among those before it is the search for a routine in a shorter list.
-use Prim.Native.Nat.{ℕ, _<_, _≤_}
+use Prim.Native.Nat.{ℕ, _+_, _<_, _≤_}
 use mathlib.Core.Path.{_≡_}
 use mathlib.Core.Bool.{true}
 use mathlib.Core.Logic.{_↔_, Iff·trans}
 use native.Mathlib.Omega.{arith}
 use native.Mathlib.Decide.{decLt}
 use lib.Dec.{eqb}
+use lib.ListN.{set}
 use borrow.Author.Tests.{lt-ltb, le-ltb}
 use Rattle.game.specs.declared.Line.{Line}
 use Rattle.game.specs.Lines.{mostEntries, itemAt, usedOf, isIn}
 use Rattle.fitting.specs.Fitting.{firstOf, entryFits, lineFits}
 use Rattle.fitting.specs.Fits.{In}
 use Rattle.fitting.proofs.Tests.{less, at-most, equal, denied, both, by-order, each, some}
+
+-- routine r behind a list's last entry, where there is room
+abbrev pub joined : Line → ℕ → Line
+joined l r = record { items = set (l .items) (l .len) r; len = l .len + 1 }
 
 pub record LineRight (l : Line) (routines : ℕ) : Type 0 where
   pub short : l .len ≤ mostEntries

@@ -28,13 +28,9 @@ usedOf l = if ltb (l .len) mostEntries then l .len else mostEntries
 unfoldable pub isIn : Line → ℕ → Bool
 isIn l r = anyBelow (usedOf l) (λ i. eqb (itemAt l i) r)
 
--- routine r behind a list's last entry
-abbrev pub joined : Line → ℕ → Line
-joined l r = record { items = set (l .items) (l .len) r; len = l .len + 1 }
-
 -- routine r at a list's end; a full list takes no more
 abbrev pub pushed : Line → ℕ → Line
-pushed l r = if ltb (l .len) mostEntries then joined l r else l
+pushed l r = if ltb (l .len) mostEntries then record { items = set (l .items) (l .len) r; len = l .len + 1 } else l
 
 -- the routines in a list, in order
 abbrev pub entriesOf : Line → List ℕ

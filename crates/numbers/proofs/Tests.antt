@@ -1,4 +1,4 @@
--- Tests: what a joined one says, one that does not pass, and a choice by one. By a test's two values.
+-- Laws of tests, by a test's two values: two tests joined by && or ||, a test that is not true, a choice by a test.
 use mathlib.Core.Path.{_≡_, refl, sym}
 use mathlib.Core.Bool.{Bool, true, false, _&&_, _||_, true≢false}
 use Rattle.numbers.specs.Choice.{if_then_else_}

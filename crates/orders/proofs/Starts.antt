@@ -15,10 +15,10 @@ use Rattle.numbers.proofs.Tests.{and-both, by-test}
 use Rattle.layout.specs.Layout.{routinesOf}
 use Rattle.game.specs.declared.Line.{Line}
 use Rattle.game.specs.declared.Game.{Game}
-use Rattle.game.specs.Lines.{mostEntries, itemAt, isIn, joined}
+use Rattle.game.specs.Lines.{mostEntries, itemAt, isIn}
 use Rattle.game.specs.Game.{notStarted, routineAt, withStart}
 use Rattle.fitting.specs.Fits.{In}
-use Rattle.fitting.proofs.Lists.{LineRight, is-in}
+use Rattle.fitting.proofs.Lists.{joined, LineRight, is-in}
 use Rattle.orders.specs.Joined.{OnlyAdds}
 use Rattle.orders.proofs.Changed.{Starts}
 use Rattle.orders.proofs.Stores.{set-each}

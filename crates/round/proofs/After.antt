@@ -2,11 +2,10 @@
 -- was too many stayed so. The state behind the eight actions is sound, and turns keep it so; hence what holds of each turn in a sound state
 -- holds of a round.
 use Prim.Native.Nat.{ℕ, _<_}
-use mathlib.Core.Path.{_≡_, refl, sym, ap, _∙_}
+use mathlib.Core.Path.{_≡_, refl, _∙_}
 use mathlib.Core.Bool.{false}
 use mathlib.Core.List.{List, [], _++_}
 use lib.IntN.{ℤ}
-use Rattle.layout.specs.declared.Verdict.{Verdict}
 use Rattle.layout.specs.Verdicts.{accepted}
 use Rattle.layout.specs.Layout.{routinesOf}
 use Rattle.book.specs.Accepted.{Accepted}
@@ -18,7 +17,7 @@ use Rattle.round.specs.History.{Among}
 use Rattle.round.specs.Actions.{atStart}
 use Rattle.round.specs.Rounds.{again, mostPasses, listedIn, turn, pass, instant, round, historyOf}
 use Rattle.round.specs.Answers.{answer}
-use Rattle.round.proofs.Telling.{round-tells, answer-verdict, played-out, told-playable}
+use Rattle.round.proofs.Telling.{accepted-played}
 use Rattle.round.proofs.Along.{All, all-among, pass-along, instant-along}
 use Rattle.round.proofs.Sound.{Sound}
 use Rattle.round.proofs.Actions.{at-start-listed}
@@ -100,6 +99,5 @@ pub answer-fits :
     (book : List ℕ) (g : Game) (buffer : List ℤ) → Sized g → answer book g buffer .verdict ≡ accepted →
     Fits book (answer book g buffer .game) × Sized (answer book g buffer .game)
 answer-fits book g buffer z e =
-    let h = ap (λ (v : Verdict). v .number) (sym (answer-verdict book g buffer) ∙ e) in
-    let (a, fits, space, few) = told-playable (round-tells book g buffer) h in
-    rw (played-out book g buffer h) (round-fits book a g z fits, round-sized book a g z fits)
+    let ((a, fits, space), same) = accepted-played book g buffer e in
+    rw same (round-fits book a g z fits, round-sized book a g z fits)

@@ -19,7 +19,7 @@ use Rattle.round.proofs.Waiting.{by-flag, clash, passed}
 use Rattle.round.proofs.Closing.{there-again, waits-again}
 
 -- a missing thing does not come by being missing
-never-missing : {t u : Thing} {r p : ℕ} → Comes t (missing r p u) → ⊥
+pub never-missing : {t u : Thing} {r p : ℕ} → Comes t (missing r p u) → ⊥
 unfolding howMany
 never-missing {t} {u} {r} {p} c = nothing-comes t (missing r p u ∷ []) refl (inl c)
 

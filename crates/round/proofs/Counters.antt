@@ -1,6 +1,6 @@
 -- The counters and numbers behind a round are what the steps told as completed make of the counters before it. So it is of each step, by
 -- the rows of the table of kinds, and of one stretch after another; no number is lost in a round.
-use Prim.Native.Nat.{ℕ, zero, suc}
+use Prim.Native.Nat.{ℕ}
 use mathlib.Core.Path.{_≡_, refl, sym, subst, ap, _∙_}
 use mathlib.Core.Bool.{false, _&&_, not, true≢false}
 use mathlib.Core.List.{List, [], _∷_, _++_}
@@ -30,8 +30,9 @@ use Rattle.round.specs.State.{State, Thing, signal, end, number, Happeni
 use Rattle.round.specs.State.{numberAt, isThere}
 use Rattle.round.specs.Actions.{atStart}
 use Rattle.round.specs.Ticks.{Tick, fresh, countAt, onward, tries, waitsFor, tickOf, tickAt, tick, mostNumbers, effectOn}
-use Rattle.round.specs.Rounds.{Ticks, follow, ticks, ticksOf, turn, round, historyOf}
+use Rattle.round.specs.Rounds.{ticks, ticksOf, turn, round, historyOf}
 use Rattle.round.specs.Whole.{Contents, madeBy, contentsAfter}
+use Rattle.round.proofs.Stepping.{ticks-by}
 use Rattle.round.proofs.Along.{round-always}
 use Rattle.round.proofs.AfterTurn.{end-keeps, turn-by}
 use Rattle.round.proofs.Demand.{none-lost}
@@ -145,32 +146,21 @@ module _ (book : List ℕ) where
         (step-holds (λ op (row : Row). TickAgrees op a b n (tickOf r steps x s (row .4))) (countsOf book) steps p (table-agrees a b n) e)
     step-agrees step.Refused e = λ few. (few, refl)
 
-    tick-agrees : let t = tick (countsOf book) r steps x s in StepAgrees (t .act) (t .told)
+    tick-agrees : {t : Tick} → tick (countsOf book) r steps x s ≡ t → StepAgrees (t .act) (t .told)
     unfolding tick
-    tick-agrees = step-agrees (stepAt (countsOf book) steps (x .place)) refl
+    tick-agrees same =
+        subst (λ (t : Tick). StepAgrees (t .act) (t .told)) same (step-agrees (stepAt (countsOf book) steps (x .place)) refl)
 
   ticks-make :
       (r n : ℕ) (x : Position) (s : State) →
       let t = ticks n (countsOf book) r (routineSteps book r) x s in
       Makes s (t .told) (t .state)
-  unfolding ticks contentsAfter
-  ticks-make r zero x s = makes-same s
-  ticks-make r (suc n) x s =
-      let t = tick (countsOf book) r (routineSteps book r) x s in
-      behind (t .act) (t .told) (tick-agrees r x s) (λ q u. ticks-make r n (fresh q) u)
-    where
-      rest : ℕ → State → Ticks
-      rest q u = ticks n (countsOf book) r (routineSteps book r) (fresh q) u
-
-      behind :
-          (act : Act) (told : List Happening) → StepAgrees r x s act told →
-          ((q : ℕ) (u : State) → Makes u (rest q u .told) (rest q u .state)) →
-          let t = follow r (x .place) act told s rest in
-          Makes s (t .told) (t .state)
-      behind (Goes q e) told h on =
-          let u = effectOn e s in
-          makes-both s u (rest q u .state) (completed r (x .place) ∷ told) (rest q u .told) h (on q u)
-      behind (Halts how y) told h on = h
+  unfolding contentsAfter
+  ticks-make r =
+      ticks-by (countsOf book) r (routineSteps book r) (λ x s t. Makes s (t .told) (t .state))
+      (λ x s q e told t same leaves right says rest.
+      makes-both s (effectOn e s) (t .state) (completed r (x .place) ∷ told) (t .told) (tick-agrees r x s same) rest)
+      (λ x s how y told same stays stops. tick-agrees r x s same) (λ x s. makes-same s)
 
   turn-makes : (r : ℕ) (s : State) → Makes s (turn book r s .told) (turn book r s .state)
   turn-makes r s =

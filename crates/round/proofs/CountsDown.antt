@@ -36,8 +36,6 @@ use Rattle.round.specs.Timed.{hasThing, isPausing, TimedRound, CountsDow
 use Rattle.round.proofs.Acts.{Asks}
 use Rattle.round.proofs.Timed.{timed-tick}
 use Rattle.round.proofs.TurnLaws.{isGoing}
-use Rattle.round.proofs.Along.{among-all}
-use Rattle.round.proofs.Actions.{at-start-listed}
 use Rattle.round.proofs.Sound.{Sound}
 use Rattle.round.proofs.Coming.{turn-untouched}
 use Rattle.round.proofs.AfterTurn.{taken, turn-over, turn-taken, routine-after, position-after, after-going}
@@ -147,9 +145,8 @@ module _
         Claim s told u =
             hasThing u timed ≡ false → (hasThing s timed ≡ false) × (Due g r s ⊎ OneLess s → Due g r u ⊎ OneLess u)
 
-        own : (s : State) → Sound book s → Claim s (turn book r s .told) (turn book r s .state)
-        own s ok m =
-            let below = among-all (λ q. q < routinesOf book) r (listedIn g) (at-start-listed book g (a .laid .counts) z f) inside in
+        own : (s : State) → r < routinesOf book → Sound book s → Claim s (turn book r s .told) (turn book r s .state)
+        own s below ok m =
             let none = was-missing s (turn book r s .state) (turn-turned book a r s below ok .keeps) timed m in (
               none,
               ⊎-elim (λ due. stays-here s due none)

@@ -2,7 +2,7 @@
 -- What is left to show after the theory of passes: a listed routine that does not go on and is not suspended is in stage 2 or 3, since it
 -- is listed in a game that fits.
 use Prim.Native.Nat.{ℕ, _<_, _≤_}
-use mathlib.Core.Path.{_≡_, refl, sym, ap, _∙_, subst}
+use mathlib.Core.Path.{_≡_, refl, _∙_, subst}
 use mathlib.Core.Bool.{false, true≢false}
 use mathlib.Core.List.{List}
 use mathlib.Core.Logic.{_⊎_, inl, inr}
@@ -11,7 +11,6 @@ use native.Mathlib.Omega.{arith}
 use borrow.Author.Tests.{le-ltb, eq-eqb}
 use lib.ListN.{length}
 use lib.IntN.{ℤ}
-use Rattle.layout.specs.declared.Verdict.{Verdict}
 use Rattle.layout.specs.Verdicts.{accepted}
 use Rattle.layout.specs.Layout.{routinesOf}
 use Rattle.book.specs.Accepted.{Accepted}
@@ -26,7 +25,7 @@ use Rattle.round.specs.Answers.{spaceFor, answer}
 use Rattle.round.specs.Tells.{RoundTells}
 use Rattle.round.specs.Demand.{Demand3}
 use Rattle.round.proofs.Given.{too-many}
-use Rattle.round.proofs.Telling.{round-tells, round-told-only, answer-verdict, played-out, told-playable}
+use Rattle.round.proofs.Telling.{round-told-only, answer-verdict, accepted-played}
 use Rattle.round.proofs.Sound.{Sound}
 use Rattle.round.proofs.Actions.{at-start-listed}
 use Rattle.round.proofs.Starting.{at-start-sound, among-listed}
@@ -95,6 +94,5 @@ pub answer-demand-3 :
     (book : List ℕ) (g : Game) (buffer : List ℤ) → Sized g → answer book g buffer .verdict ≡ accepted →
     Demand3 book g (answer book g buffer .passes) (answer book g buffer .game)
 answer-demand-3 book g buffer z e =
-    let h = ap (λ (v : Verdict). v .number) (sym (answer-verdict book g buffer) ∙ e) in
-    let (a, fits, space, few) = told-playable (round-tells book g buffer) h in
-    rw (played-out book g buffer h) (demand-3 book a g z fits)
+    let ((a, fits, space), same) = accepted-played book g buffer e in
+    rw same (demand-3 book a g z fits)

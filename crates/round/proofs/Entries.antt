@@ -18,10 +18,10 @@ use Rattle.layout.specs.Layout.{routinesOf}
 use Rattle.book.specs.Accepted.{CountsInRange}
 use Rattle.game.specs.declared.Line.{Line}
 use Rattle.game.specs.declared.Game.{Game}
-use Rattle.game.specs.Lines.{mostEntries, itemAt, entriesOf, joined, pushed, appended}
+use Rattle.game.specs.Lines.{mostEntries, itemAt, entriesOf, pushed, appended}
 use Rattle.game.specs.Game.{Sized}
 use Rattle.fitting.specs.Fits.{Fits}
-use Rattle.fitting.proofs.Lists.{LineRight, used-all}
+use Rattle.fitting.proofs.Lists.{joined, LineRight, used-all}
 use Rattle.fitting.proofs.Decides.{fit-lists}
 use Rattle.fitting.proofs.Room.{few}
 use Rattle.round.specs.Actions.{kept}

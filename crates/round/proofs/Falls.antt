@@ -13,12 +13,12 @@ use Rattle.numbers.specs.Choice.{if_then_else_}
 use Rattle.numbers.proofs.Tests.{and-both}
 use Rattle.kinds.specs.declared.Counts.{Counts}
 use Rattle.kinds.specs.declared.Form.{Form}
-use Rattle.kinds.specs.declared.Form.the-variants.{Plain, Pausing, IfOpening, ElseMarker, WhileOpening, EndMarker}
+use Rattle.kinds.specs.declared.Form.the-variants.{Plain, Pausing}
 use Rattle.blocks.specs.Blocks.{View, beyond, stands, deepest}
 use Rattle.blocks.specs.Parse.{ParsedBlock, empty, more, ParsedStep, plain, pausing, ifOnly, ifElse, loop}
 use Rattle.blocks.specs.Parse.{blockPauses, stepPauses, EachWhileOf, WhilesPause}
 use Rattle.blocks.proofs.Views.{view-beyond, standing-below}
-use Rattle.round.specs.Jumps.{sizeOf, pastPartner, fromEnd}
+use Rattle.round.specs.Jumps.{sizeOf, pastPartner}
 use Rattle.round.proofs.Jumps.{past-partner, from-if, from-else, from-while}
 use Rattle.round.proofs.Leads.{isHalt, nextBy, formAt, Leads}
 
@@ -40,32 +40,20 @@ module _ (counts : Counts) (steps : List ℕ) where
   inside (halts l h) = l
   inside (goes l n on) = l
 
-  by-form : (p : ℕ) (f : Form) → at p ≡ stands f → isHalt (stands f) ≡ false → ((t : Bool) → Ends (nextBy steps (stands f) p t)) → Ends p
-  by-form p f h n on = goes {p = p} (omega (arith, standing-below counts steps (sizeOf steps) p h)) (rw h n) (λ t. rw h (on t))
+  -- by the form that stands there
+  by-form : {p : ℕ} {f : Form} → at p ≡ stands f → isHalt (stands f) ≡ false → ((t : Bool) → Ends (nextBy steps (stands f) p t)) → Ends p
+  by-form {p} h n on = goes {p = p} (omega (arith, standing-below counts steps (sizeOf steps) p h)) (rw h n) (λ t. rw h (on t))
 
   at-plain : {p : ℕ} → at p ≡ stands Plain → Ends (suc p) → Ends p
-  at-plain {p} h w = by-form p Plain h refl (λ t. rw add-one w)
+  at-plain h w = by-form h refl (λ t. rw add-one w)
 
   at-pausing : {p : ℕ} → at p ≡ stands Pausing → Ends p
   at-pausing {p} h = halts {p = p} (omega (arith, standing-below counts steps (sizeOf steps) p h)) (rw h)
 
   -- behind an opening, by its test
-  by-either :
-      (p : ℕ) {q : ℕ} → pastPartner steps p ≡ q → Ends (suc p) → Ends q → (t : Bool) → Ends (if t then p + 1 else pastPartner steps p)
-  by-either p k a b true = rw add-one a
-  by-either p k a b false = rw k b
-
-  at-if : {p q : ℕ} → at p ≡ stands IfOpening → pastPartner steps p ≡ q → Ends (suc p) → Ends q → Ends p
-  at-if {p} h k a b = by-form p IfOpening h refl (by-either p k a b)
-
-  at-while : {p q : ℕ} → at p ≡ stands WhileOpening → pastPartner steps p ≡ q → Ends (suc p) → Ends q → Ends p
-  at-while {p} h k a b = by-form p WhileOpening h refl (by-either p k a b)
-
-  at-else : {p q : ℕ} → at p ≡ stands ElseMarker → pastPartner steps p ≡ q → Ends q → Ends p
-  at-else {p} h k b = by-form p ElseMarker h refl (λ t. rw k b)
-
-  at-end : {p q : ℕ} → at p ≡ stands EndMarker → fromEnd steps p ≡ q → Ends q → Ends p
-  at-end {p} h k b = by-form p EndMarker h refl (λ t. rw k b)
+  by-either : {p q : ℕ} → pastPartner steps p ≡ q → Ends (suc p) → Ends q → (t : Bool) → Ends (if t then p + 1 else pastPartner steps p)
+  by-either k a b true = rw add-one a
+  by-either k a b false = rw k b
 
   -- the whiles in a step pause
   abbrev Fine : {d p e : ℕ} → ParsedStep at d p e → Type 0
@@ -84,15 +72,20 @@ module _ (counts : Counts) (steps : List ℕ) where
     from-step (pausing h) w k = at-pausing h
     from-step (ifOnly h b e) w (inl t) = absurd (true≢false (sym t))
     from-step (ifOnly h b e) w (inr k) =
-        at-if h (past-partner counts steps b (inr e)) (from-block b w (inr (at-end e (from-if counts steps h b) k))) k
+        let last = by-form e refl (λ t. rw (from-if counts steps h b) k) in
+        by-form h refl (by-either (past-partner counts steps b (inr e)) (from-block b w (inr last)) k)
     from-step (ifElse h b m c e) w (inl t) =
         let (u, v) = and-both (blockPauses at b) (blockPauses at c) t in
-        at-if h (past-partner counts steps b (inl m)) (from-block b (w .0) (inl u)) (from-block c (w .1) (inl v))
+        by-form h refl
+        (by-either (past-partner counts steps b (inl m)) (from-block b (w .0) (inl u)) (from-block c (w .1) (inl v)))
     from-step (ifElse h b m c e) w (inr k) =
-        at-if h (past-partner counts steps b (inl m)) (from-block b (w .0) (inr (at-else m (past-partner counts steps c (inr e)) k)))
-        (from-block c (w .1) (inr (at-end e (from-else counts steps h b m c) k)))
+        let first = by-form m refl (λ t. rw (past-partner counts steps c (inr e)) k) in
+        let last = by-form e refl (λ t. rw (from-else counts steps h b m c) k) in
+        by-form h refl
+        (by-either (past-partner counts steps b (inl m)) (from-block b (w .0) (inr first)) (from-block c (w .1) (inr last)))
     from-step (loop h b e) w (inl t) = absurd (true≢false (sym t))
-    from-step (loop h b e) w (inr k) = at-while h (past-partner counts steps b (inr e)) (from-block b (w .1) (inl (w .0))) k
+    from-step (loop h b e) w (inr k) =
+        by-form h refl (by-either (past-partner counts steps b (inr e)) (from-block b (w .1) (inl (w .0))) k)
 
   -- from every place of a block or a step
   mutual
@@ -109,21 +102,21 @@ module _ (counts : Counts) (steps : List ℕ) where
     in-step (pausing h) w k x l m = subst Ends (omega arith) (at-pausing h)
     in-step (ifOnly {p = p} h b e) w k x l m =
         elim (decLt p x) [
-          | yes i ↦ in-block b w (at-end e (from-if counts steps h b) k) x i (omega arith)
+          | yes i ↦ in-block b w (by-form e refl (λ t. rw (from-if counts steps h b) k)) x i (omega arith)
           | no n ↦ subst Ends (omega arith) (from-step (ifOnly h b e) w (inr k))
         ]
     in-step (ifElse {p = p} {q = q} h b o c e) w k x l m =
         elim (decLt p x) [
           | no n ↦ subst Ends (omega arith) (from-step (ifElse h b o c e) w (inr k))
           | yes i ↦ elim (decLt q x) [
-            | yes j ↦ in-block c (w .1) (at-end e (from-else counts steps h b o c) k) x j (omega arith)
-            | no n ↦ in-block b (w .0) (at-else o (past-partner counts steps c (inr e)) k) x i (omega arith)
+            | yes j ↦ in-block c (w .1) (by-form e refl (λ t. rw (from-else counts steps h b o c) k)) x j (omega arith)
+            | no n ↦ in-block b (w .0) (by-form o refl (λ t. rw (past-partner counts steps c (inr e)) k)) x i (omega arith)
           ]
         ]
     in-step (loop {p = p} h b e) w k x l m =
         let top : Ends p = from-step (loop h b e) w (inr k) in
         elim (decLt p x) [
-          | yes i ↦ in-block b (w .1) (at-end e (from-while counts steps h b) top) x i (omega arith)
+          | yes i ↦ in-block b (w .1) (by-form e refl (λ t. rw (from-while counts steps h b) top)) x i (omega arith)
           | no n ↦ subst Ends (omega arith) top
         ]
 

@@ -17,13 +17,13 @@ use Rattle.game.specs.Game.{continuing, routineAt, Sized}
 use Rattle.fitting.specs.Fits.{Fits}
 use Rattle.round.specs.declared.Position.{Position}
 use Rattle.round.specs.State.{State, Thing, Happening, missing, completed, isThere}
-use Rattle.round.specs.History.{howMany, Somewhere, Among}
+use Rattle.round.specs.History.{Somewhere, Among}
 use Rattle.round.specs.Actions.{positionOf, atStart}
 use Rattle.round.specs.Rounds.{again, listedIn, turn, round, historyOf}
 use Rattle.round.specs.Demand.{Comes, IsPast}
 use Rattle.round.proofs.Acts.{Asks}
-use Rattle.round.proofs.TurnLaws.{isGoing, Waits}
-use Rattle.round.proofs.Histories.{somewhere-append, in-first, in-second, nothing-comes}
+use Rattle.round.proofs.TurnLaws.{isGoing, waits-at}
+use Rattle.round.proofs.Histories.{somewhere-append, in-first, in-second}
 use Rattle.round.proofs.After.{round-along}
 use Rattle.round.proofs.Sound.{Sound}
 use Rattle.round.proofs.Starting.{among-listed, listed-stage}
@@ -33,6 +33,7 @@ use Rattle.round.proofs.Turned.{turn-turned}
 use Rattle.round.proofs.Again.{misses-again, goes-past}
 use Rattle.round.proofs.Waiting.{by-flag}
 use Rattle.round.proofs.Closing.{there-again}
+use Rattle.round.proofs.CatchingUp.{never-missing}
 use Rattle.round.proofs.Demand.{demand-3}
 use Rattle.round.proofs.Tried.{came, lacked}
 
@@ -44,24 +45,15 @@ Keeps s u = (t : Thing) → isThere s t ≡ true → isThere u t ≡ true
 abbrev pub Completes : ℕ → ℕ → List Happening → Type 0
 Completes r p told = Somewhere (λ h. h ≡ completed r p) told
 
-past-completes : {r p : ℕ} {t : Thing} {told : List Happening} → IsPast r p t told → Completes r p told
-past-completes IsPast.here = inl refl
-past-completes (IsPast.later w) = inr (past-completes w)
+module _ (P : Happening → Type 0) where
+  past-told : {r p : ℕ} {t : Thing} {told : List Happening} → P (completed r p) → IsPast r p t told → Somewhere P told
+  past-told h IsPast.here = inl h
+  past-told h (IsPast.later w) = inr (past-told h w)
 
--- where something is told
-told-at : (m : Happening) (told : List Happening) → Somewhere (λ h. h ≡ m) told → (b c : List Happening) × (told ≡ b ++ (m ∷ c))
-told-at m (h ∷ told) (inl e) = ([], told, ap (λ k. k ∷ told) e)
-told-at m (h ∷ told) (inr w) = let (b, c, e) = told-at m told w in (h ∷ b, c, ap (λ l. h ∷ l) e)
-
-module _ (P Q : Happening → Type 0) where
-  first-of : (told : List Happening) → Somewhere P told → Somewhere (λ h. P h ⊎ Q h) told
-  first-of (h ∷ told) (inl p) = inl (inl p)
-  first-of (h ∷ told) (inr w) = inr (first-of told w)
-
-  which-of : (told : List Happening) → Somewhere (λ h. P h ⊎ Q h) told → Somewhere P told ⊎ Somewhere Q told
-  which-of (h ∷ told) (inl (inl p)) = inl (inl p)
-  which-of (h ∷ told) (inl (inr q)) = inr (inl q)
-  which-of (h ∷ told) (inr w) = ⊎-elim (λ p. inl (inr p)) (λ q. inr (inr q)) (which-of told w)
+  -- where it is told
+  told-at : (told : List Happening) → Somewhere P told → (h : Happening) × (b c : List Happening) × P h × (told ≡ b ++ (h ∷ c))
+  told-at (h ∷ told) (inl p) = (h, [], told, p, refl)
+  told-at (h ∷ told) (inr w) = let (k, b, c, p, e) = told-at told w in (k, h ∷ b, c, p, ap (λ l. h ∷ l) e)
 
 -- routine r, where it stands when the passes begin
 module _ (g : Game) (r : ℕ) where
@@ -85,12 +77,12 @@ module _ (book : List ℕ) (a : Accepted book) (g : Game) (z : Sized g) (f : Fit
       (both : (s u v : State) (b c : List Happening) → Claim s b u → Claim u c v → Claim s (b ++ c) v)
       (others :
       (s u : State) (told : List Happening) → SameSeat (routineAt (u .game) r) (routineAt (s .game) r) → Keeps s u → Claim s told u)
-      (own : (s : State) → Sound book s → Claim s (turn book r s .told) (turn book r s .state))
+      (own : (s : State) → r < routinesOf book → Sound book s → Claim s (turn book r s .told) (turn book r s .state))
     where
       each-turn :
           (q : ℕ) (s : State) → q < routinesOf book → Sound book s → Claim s (turn book q s .told) (turn book q s .state)
       each-turn q s l ok = elim (ℕ-discrete r q) [
-        | yes e ↦ subst (λ i. Claim s (turn book i s .told) (turn book i s .state)) e (own s ok)
+        | yes e ↦ subst (λ i. i < routinesOf book → Claim s (turn book i s .told) (turn book i s .state)) e (λ m. own s m ok) l
         | no n ↦ let turned = turn-turned book a q s l ok in others s _ _ (turned .sits .others r n) (turned .keeps)
       ]
 
@@ -116,7 +108,7 @@ module _ (book : List ℕ) (a : Accepted book) (g : Game) (z : Sized g) (f : Fit
         round-of-one (λ s told u. Due g r s → Somewhere P told ⊎ Due g r u)
         (λ s u v b c first second due.
         ⊎-elim (λ w. inl (in-first P b c w)) (λ k. ⊎-elim (λ w. inl (in-second P b c w)) (λ m. inr m) (second k)) (first due))
-        (λ s u told seat keeps due. inr (due-seat g r s u seat due)) (λ s ok due. inl (tells s due)) in
+        (λ s u told seat keeps due. inr (due-seat g r s u seat due)) (λ s l ok due. inl (tells s due)) in
         ⊎-elim (λ w. w) (λ due. absurd (due-last due)) (all due-first)
 
     -- the step there asks for a thing that is there at the round's end
@@ -132,29 +124,26 @@ module _ (book : List ℕ) (a : Accepted book) (g : Game) (z : Sized g) (f : Fit
 
         tries-told : (s : State) → Due g r s → Somewhere Tried (turn book r s .told)
         tries-told s (going, at) =
-            let waits : Waits book s r p t =
-            record {
-              place = ap (λ (y : Position). y .place) at;
-              asks = subst (λ (y : Position). Asks y (stepAt (countsOf book) (routineSteps book r) (y .place)) t) (sym at) asks;
-            } in
+            let waits = waits-at book s r at asks in
             by-flag (isThere s t)
-            (λ h. first-of _ _ (turn book r s .told) (past-completes (goes-past book r p t s going waits h)))
+            (λ h. past-told Tried (inl refl) (goes-past book r p t s going waits h))
             (λ h. subst (Somewhere Tried) (sym (misses-again book r p t s going waits h)) (inl (inr refl)))
 
         -- a try that missed it caught up
-        caught-up : Somewhere (λ h. h ≡ missing r p t) (historyOf book g) → Completes r p (historyOf book g)
-        unfolding howMany
-        caught-up w =
-            let (b, c, e) = told-at (missing r p t) (historyOf book g) w in
+        caught-up : (b c : List Happening) → historyOf book g ≡ b ++ (missing r p t ∷ c) → Completes r p (historyOf book g)
+        caught-up b c e =
             let (absent, none) = lacked book a g z f b c r p t e in
             let comes = subst (Somewhere (Comes t)) e (came book a g z f t absent there) in
             elim (somewhere-append (Comes t) b (missing r p t ∷ c) comes) [
               | inl k ↦ absurd (none k)
-              | inr (inl k) ↦ absurd (nothing-comes t (missing r p t ∷ []) refl (inl k))
+              | inr (inl k) ↦ absurd (never-missing k)
               | inr (inr k) ↦
-                  let after = past-completes (demand-3 book a g z f .caughtUp b c r p t e k) in
+                  let after = past-told (λ h. h ≡ completed r p) refl (demand-3 book a g z f .caughtUp b c r p t e k) in
                   subst (Completes r p) (sym e) (in-second (λ h. h ≡ completed r p) b (missing r p t ∷ c) (inr after))
             ]
 
         pub thing-past : Completes r p (historyOf book g)
-        thing-past = ⊎-elim (λ w. w) caught-up (which-of _ _ (historyOf book g) (told-then Tried tries-told))
+        thing-past =
+            let (h, b, c, tried, e) = told-at Tried (historyOf book g) (told-then Tried tries-told) in
+            ⊎-elim (λ done. subst (Completes r p) (sym e) (in-second (λ m. m ≡ completed r p) b (h ∷ c) (inl done)))
+            (λ missed. caught-up b c (e ∙ ap (λ m. b ++ (m ∷ c)) missed)) tried

@@ -11,6 +11,7 @@ use Rattle.numbers.specs.Choice.{if_then_else_}
 use Rattle.kinds.specs.declared.Kind.{Kind}
 use Rattle.kinds.specs.declared.Kind.the-variants.{Mark, Set, Add, Take, Signal, SignalNumber, Rest, RestFor, Wait, WaitFor}
 use Rattle.kinds.specs.declared.Kind.the-variants.{Join, JoinFor, Read, Start, Stop, Suspend, Resume, If, Else, While, End}
+use Rattle.kinds.specs.declared.Step.{Step}
 use Rattle.kinds.specs.declared.Step.the-variants as step
 use Rattle.kinds.specs.declared.Counts.{Counts}
 use Rattle.kinds.specs.declared.Row.{Row}
@@ -23,37 +24,37 @@ use Rattle.blocks.proofs.Scan.{Rows, _and_, step-holds, row-kind, kind-there}
 use Rattle.round.specs.Jumps.{sizeOf}
 use Rattle.round.proofs.Leads.{formAt}
 
--- what a kind of a form is
-abbrev Formed : Form → Kind → Type 0
-Formed Plain k = formOf k ≡ Plain
-Formed Pausing k = formOf k ≡ Pausing
-Formed IfOpening k = (c : ℕ) × (relation : ℕ) × (n : ℤ) × (k ≡ If c relation n)
-Formed ElseMarker k = k ≡ Else
-Formed WhileOpening k = (c : ℕ) × (relation : ℕ) × (n : ℤ) × (k ≡ While c relation n)
-Formed EndMarker k = k ≡ End
+-- what a step of a form is
+abbrev pub Formed : Form → Step → Type 0
+Formed Plain st = (k : Kind) × (st ≡ step.Kind k) × (formOf k ≡ Plain)
+Formed Pausing st = (k : Kind) × (st ≡ step.Kind k) × (formOf k ≡ Pausing)
+Formed IfOpening st = (c : ℕ) × (relation : ℕ) × (n : ℤ) × (st ≡ step.Kind (If c relation n))
+Formed ElseMarker st = st ≡ step.Kind Else
+Formed WhileOpening st = (c : ℕ) × (relation : ℕ) × (n : ℤ) × (st ≡ step.Kind (While c relation n))
+Formed EndMarker st = st ≡ step.Kind End
 
-rest-formed : (t : Bool) (k : Kind) → formOf k ≡ (if t then Plain else Pausing) → Formed (if t then Plain else Pausing) k
-rest-formed true k h = h
-rest-formed false k h = h
+rest-formed : (t : Bool) (k : Kind) → formOf k ≡ (if t then Plain else Pausing) → Formed (if t then Plain else Pausing) (step.Kind k)
+rest-formed true k h = (k, refl, h)
+rest-formed false k h = (k, refl, h)
 
-formed : (k : Kind) → Formed (formOf k) k
-formed (Mark n) = refl
-formed (Set c n) = refl
-formed (Add c n) = refl
-formed (Take c d) = refl
-formed (Signal e) = refl
-formed (SignalNumber e c) = refl
-formed Rest = refl
+formed : (k : Kind) → Formed (formOf k) (step.Kind k)
+formed (Mark n) = (Mark n, refl, refl)
+formed (Set c n) = (Set c n, refl, refl)
+formed (Add c n) = (Add c n, refl, refl)
+formed (Take c d) = (Take c d, refl, refl)
+formed (Signal e) = (Signal e, refl, refl)
+formed (SignalNumber e c) = (SignalNumber e c, refl, refl)
+formed Rest = (Rest, refl, refl)
 formed (RestFor n) = rest-formed (eqb n 0) (RestFor n) refl
-formed (Wait e) = refl
-formed (WaitFor e n) = refl
-formed (Join t) = refl
-formed (JoinFor t n) = refl
-formed (Read e c n) = refl
-formed (Start t) = refl
-formed (Stop t) = refl
-formed (Suspend t) = refl
-formed (Resume t) = refl
+formed (Wait e) = (Wait e, refl, refl)
+formed (WaitFor e n) = (WaitFor e n, refl, refl)
+formed (Join t) = (Join t, refl, refl)
+formed (JoinFor t n) = (JoinFor t n, refl, refl)
+formed (Read e c n) = (Read e c n, refl, refl)
+formed (Start t) = (Start t, refl, refl)
+formed (Stop t) = (Stop t, refl, refl)
+formed (Suspend t) = (Suspend t, refl, refl)
+formed (Resume t) = (Resume t, refl, refl)
 formed (If c relation n) = (c, relation, n, refl)
 formed Else = refl
 formed (While c relation n) = (c, relation, n, refl)
@@ -96,8 +97,8 @@ module _ (counts : Counts) (steps : List ℕ) where
   abbrev at : ℕ → View
   at = formAt counts steps
 
-  form-there : (p : ℕ) {f : Form} → at p ≡ stands f → (k : Kind) × (stepAt counts steps p ≡ step.Kind k) × Formed f k
-  form-there p h = let (k, e, g) = kind-there counts steps (sizeOf steps) p h in (k, e, rw g at (formed k))
+  pub form-there : (p : ℕ) {f : Form} → at p ≡ stands f → Formed f (stepAt counts steps p)
+  form-there p h = let (k, e, g) = kind-there counts steps (sizeOf steps) p h in rw e (rw g at (formed k))
 
   -- a step that holds no block and is no marker
   pub leaf-there :
@@ -105,20 +106,6 @@ module _ (counts : Counts) (steps : List ℕ) where
       (k : Kind) × (stepAt counts steps p ≡ step.Kind k) × ((formOf k ≡ Plain) ⊎ (formOf k ≡ Pausing))
   leaf-there p (inl h) = let (k, e, g) = form-there p h in (k, e, inl g)
   leaf-there p (inr h) = let (k, e, g) = form-there p h in (k, e, inr g)
-
-  pub if-there :
-      (p : ℕ) → at p ≡ stands IfOpening → (c : ℕ) × (relation : ℕ) × (n : ℤ) × (stepAt counts steps p ≡ step.Kind (If c relation n))
-  if-there p h = let (k, e, (c, relation, n, g)) = form-there p h in (c, relation, n, e ∙ ap step.Kind g)
-
-  pub while-there :
-      (p : ℕ) → at p ≡ stands WhileOpening → (c : ℕ) × (relation : ℕ) × (n : ℤ) × (stepAt counts steps p ≡ step.Kind (While c relation n))
-  while-there p h = let (k, e, (c, relation, n, g)) = form-there p h in (c, relation, n, e ∙ ap step.Kind g)
-
-  pub else-there : (p : ℕ) → at p ≡ stands ElseMarker → stepAt counts steps p ≡ step.Kind Else
-  else-there p h = let (k, e, g) = form-there p h in e ∙ ap step.Kind g
-
-  pub end-there : (p : ℕ) → at p ≡ stands EndMarker → stepAt counts steps p ≡ step.Kind End
-  end-there p h = let (k, e, g) = form-there p h in e ∙ ap step.Kind g
 
   -- a step's op is its kind's
   pub step-op : (p : ℕ) {k : Kind} → stepAt counts steps p ≡ step.Kind k → opAt steps p ≡ opOf k

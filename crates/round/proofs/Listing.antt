@@ -13,9 +13,9 @@ use lib.ListN.{length, getD, length-set, getD-replicate}
 use lib.Seq.{getD-set-other}
 use Rattle.numbers.proofs.Tests.{by-test}
 use Rattle.game.specs.declared.Line.{Line}
-use Rattle.game.specs.Lines.{mostEntries, empty, itemAt, entriesOf, joined, appended}
+use Rattle.game.specs.Lines.{mostEntries, empty, itemAt, entriesOf, appended}
 use Rattle.fitting.specs.Fits.{In}
-use Rattle.fitting.proofs.Lists.{LineRight}
+use Rattle.fitting.proofs.Lists.{joined, LineRight}
 use Rattle.round.specs.Actions.{kept}
 use Rattle.round.proofs.Histories.{somewhere-append}
 use Rattle.round.proofs.Along.{All, among-all, Distinct}

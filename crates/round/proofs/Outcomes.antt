@@ -1,17 +1,15 @@
 -- How a turn that is taken comes out: its last step says why it ended and where its routine stands behind it. Where it is to be continued,
 -- that step found its thing missing; where it is not, no step found anything missing, unless the round is being closed.
 use Prim.Native.Nat.{ℕ, _<_}
-use mathlib.Core.Path.{_≡_, sym, ap, _∙_, subst}
+use mathlib.Core.Path.{_≡_, sym, ap, _∙_}
 use mathlib.Core.Bool.{true, false, not}
 use mathlib.Core.List.{List, [], _∷_, _++_}
 use borrow.Author.Tests.{not-true, not-false}
-use Rattle.kinds.specs.Steps.{stepAt}
 use Rattle.layout.specs.Layout.{routinesOf, countsOf}
 use Rattle.book.specs.Book.{routineSteps}
 use Rattle.book.specs.Accepted.{Accepted}
 use Rattle.game.specs.Game.{routineAt}
 use Rattle.round.specs.declared.Ending.{Ending}
-use Rattle.round.specs.declared.Position.{Position}
 use Rattle.round.specs.State.{State}
 use Rattle.round.specs.History.{howMany}
 use Rattle.round.specs.Actions.{positionOf}
@@ -19,8 +17,7 @@ use Rattle.round.specs.Rounds.{Ticks, mostTicks, afterTurn, took, isDone
 use Rattle.round.specs.Whole.{isMiss}
 use Rattle.round.proofs.Histories.{none-of-both}
 use Rattle.round.proofs.Effects.{Untouched}
-use Rattle.round.proofs.Acts.{Asks}
-use Rattle.round.proofs.TurnLaws.{isGoing, ToBeContinued}
+use Rattle.round.proofs.TurnLaws.{isGoing, waits-at, ToBeContinued}
 use Rattle.round.proofs.Shaping.{Shape, stops-continued, stops-calm, shaped}
 use Rattle.round.proofs.Lasting.{routine-in-time}
 use Rattle.round.proofs.Coming.{turn-untouched}
@@ -66,11 +63,7 @@ module _ (book : List ℕ) (a : Accepted book) where
             place = shape .last .place;
             thing = thing;
             before = shape .before;
-            waits =
-                record {
-                  place = ap (λ (y : Position). y .place) there;
-                  asks = subst (λ (y : Position). Asks y (stepAt (countsOf book) steps (y .place)) thing) (sym there) asks;
-                };
+            waits = waits-at book (afterTurn r all) r there asks;
             missed = after-missing r s all (untouched .seats r) going how thing missed;
             history = shape .history ∙ ap (λ l. shape .before ++ l) told;
             calm = shape .noMiss;

@@ -1,8 +1,7 @@
 -- What a round is told is told for the reason that document 01 gives, and nothing else is; with what it hands back either way.
 -- A reason settles each check up to its own, so it is enough to find one; the book and the game are checked as an order checks them.
 use Prim.Native.Nat.{ℕ, _≤_}
-use mathlib.Core.Path.{_≡_, ap, _∙_}
-use mathlib.Core.Bool.{false}
+use mathlib.Core.Path.{_≡_, sym, ap, _∙_}
 use mathlib.Core.List.{List}
 use native.Mathlib.Omega.{arith}
 use native.Mathlib.Decide.{ℕ-discrete, decLt}
@@ -10,6 +9,7 @@ use borrow.Author.Tests.{eq-eqb, ne-eqb, le-leb, lt-leb, lt-ltb, le-ltb}
 use lib.ListN.{length}
 use lib.IntN.{ℤ}
 use Rattle.layout.specs.declared.Verdict.{Verdict}
+use Rattle.layout.specs.Verdicts.{accepted}
 use Rattle.book.specs.Accepted.{Accepted}
 use Rattle.layout.proofs.First.{orElse-told}
 use Rattle.book.proofs.Telling.{told-only}
@@ -70,12 +70,20 @@ module _ (book : List ℕ) (g : Game) (buffer : List ℤ) where
 
 -- what an accepted round is accepted for
 abbrev pub Playable : List ℕ → Game → List ℤ → Type 0
-Playable book g buffer = Accepted book × Fits book g × (spaceFor book ≤ length buffer) × (round book g .played .state .tooMany ≡ false)
+Playable book g buffer = Accepted book × Fits book g × (spaceFor book ≤ length buffer)
 
-pub told-playable :
+told-playable :
     {book : List ℕ} {g : Game} {buffer : List ℤ} {v : Verdict} → RoundTells book g buffer v → v .number ≡ 0 → Playable book g buffer
 told-playable (RoundTells.book t) e = absurd (omega arith)
 told-playable (RoundTells.unfit a m) e = absurd (omega arith)
 told-playable (RoundTells.short a f h) e = absurd (omega arith)
 told-playable (RoundTells.tooMany a f h m) e = absurd (omega arith)
-told-playable {book} {g} (RoundTells.nothing a f h m) e = (a, f, h, too-many book g ∙ le-ltb _ _ m)
+told-playable (RoundTells.nothing a f h m) e = (a, f, h)
+
+-- an accepted round was playable and has been played
+pub accepted-played :
+    (book : List ℕ) (g : Game) (buffer : List ℤ) → answer book g buffer .verdict ≡ accepted →
+    Playable book g buffer × (answer book g buffer ≡ playedOut (roundVerdict book g buffer) (round book g) buffer)
+accepted-played book g buffer e =
+    let h = ap (λ (v : Verdict). v .number) (sym (answer-verdict book g buffer) ∙ e) in
+    (told-playable (round-tells book g buffer) h, played-out book g buffer h)

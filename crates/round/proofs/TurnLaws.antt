@@ -2,7 +2,7 @@
 -- catching up follow. They hold for the listed routines, in the states that keep what a round keeps; a turn's effect on the state is one of
 -- them (Turned).
 use Prim.Native.Nat.{ℕ, _+_, _<_}
-use mathlib.Core.Path.{_≡_, sym, ap, _∙_, subst}
+use mathlib.Core.Path.{_≡_, sym, ap, subst}
 use mathlib.Core.Bool.{Bool, true, false, _||_, not}
 use mathlib.Core.List.{List, [], _∷_, _++_}
 use mathlib.Core.Logic.{_≢_}
@@ -64,16 +64,20 @@ module _ (book : List ℕ) where
     pub place : routineAt (s .game) r .place ≡ p
     pub asks : Asks (positionOf (routineAt (s .game) r)) (stepAt (countsOf book) (routineSteps book r) (routineAt (s .game) r .place)) t
 
+  pub waits-at :
+      (s : State) (r : ℕ) {x : Position} {t : Thing} → positionOf (routineAt (s .game) r) ≡ x →
+      Asks x (stepAt (countsOf book) (routineSteps book r) (x .place)) t → Waits s r (x .place) t
+  waits-at s r {t = t} here asks =
+      record {
+        place = ap (λ (x : Position). x .place) here;
+        asks = subst (λ (x : Position). Asks x (stepAt (countsOf book) (routineSteps book r) (x .place)) t) (sym here) asks;
+      }
+
   -- it does so by its position alone
   pub waits-too :
       (r p : ℕ) (t : Thing) (u v : State) → positionOf (routineAt (v .game) r) ≡ positionOf (routineAt (u .game) r) → Waits u r p t →
       Waits v r p t
-  waits-too r p t u v same waits =
-      record {
-        place = ap (λ (x : Position). x .place) same ∙ waits .place;
-        asks =
-            subst (λ (x : Position). Asks x (stepAt (countsOf book) (routineSteps book r) (x .place)) t) (sym same) (waits .asks);
-      }
+  waits-too r p t u v same waits = rw (waits .place) at (waits-at v r same (waits .asks))
 
   -- a turn that is to be continued: it ends at a step whose thing is missing, and everything before went on
   pub record ToBeContinued (r : ℕ) (u : State) (told : List Happening) : Type 0 where

@@ -62,11 +62,12 @@ isTold book g buffer number =
       tells = record { verdict = refused number 0; game = g; passes = 0; marks = 0; buffer = buffer };
     }
 
--- no book at all comes before everything, a game that does not fit before a short buffer, and one mark step asks for two numbers
+-- an empty book is told before all else, an endless while before a game that does not fit, and that before a short buffer; one mark step
+-- asks for two numbers
 abbrev pub examples : List Example
 examples =
     isTold [] blankGame [] 1
-    ∷ isTold restsInOne (first restsInOne) [] 7
+    ∷ isTold restsInOne blankGame [] 7
     ∷ isTold t3 blankGame [] 9
     ∷ isTold t3 (first t3) [] 10
     ∷ isTold t3 (first t3) (pos 5 ∷ []) 10

@@ -1,4 +1,4 @@
--- What is counted in a book, and what is counted and found in a round's history.
+-- Counting in a book and in a round's history, and what is somewhere in a list.
 use Prim.Native.Nat.{ℕ, zero, suc, _+_}
 use mathlib.Core.Bool.{Bool}
 use mathlib.Core.Path.{_≡_}
@@ -23,7 +23,7 @@ unfoldable pub howMany : (Happening → Bool) → List Happening → ℕ
 howMany test [] = 0
 howMany test (h ∷ told) = let rest = howMany test told in if test h then rest + 1 else rest
 
--- P holds of something in a list, as of something that happened
+-- P holds of some item of a list
 abbrev pub Somewhere : {A : Type 0} → (A → Type 0) → List A → Type 0
 Somewhere P [] = ⊥
 Somewhere P (x ∷ xs) = P x ⊎ Somewhere P xs

@@ -1,6 +1,6 @@
--- The history of a round leaves nothing out and is true: what its states and turns say happened is told, as often as it happened, a try
--- finds its thing exactly if that was there from the start or came before, and the steps told as completed, in order, make the counters
--- and numbers behind the round of the counters before it.
+-- The history of a round is true and leaves out no signal, mark, end or miss: each is told as often as it happened. A try finds its thing
+-- exactly if that was there from the start or came before; and the steps told as completed, carried out in order on the counters before
+-- the round, give the counters and numbers behind it.
 use Prim.Native.Nat.{ℕ, _+_, _-_}
 use mathlib.Core.Path.{_≡_}
 use mathlib.Core.Bool.{Bool, true, false}
@@ -99,7 +99,7 @@ pub record ToldWhole (book : List ℕ) (g : Game) : Type 0 where
       ≡ length (kept (λ r. eqb (routineAt (round book g .played .state .game) r .stage) stage.ended) (listedIn g))
   -- a miss for each turn that came to a step whose thing was missing
   pub misses : howMany isMiss (historyOf book g) ≡ missesOf (round book g .played .turns)
-  -- what comes is there, and what was not there and is there now has come
+  -- what came is there at the round's end, and what is there then and was not at the start has come
   pub comes : (t : Thing) → Somewhere (Comes t) (historyOf book g) → isThere (round book g .played .state) t ≡ true
   pub came :
       (t : Thing) → isThere (atStart g) t ≡ false → isThere (round book g .played .state) t ≡ true →
@@ -111,7 +111,7 @@ pub record ToldWhole (book : List ℕ) (g : Game) : Type 0 where
   pub lacked :
       (before after : List Happening) (r p : ℕ) (t : Thing) → historyOf book g ≡ before ++ (missing r p t ∷ after) →
       (isThere (atStart g) t ≡ false) × (Somewhere (Comes t) before → ⊥)
-  -- the counters and numbers behind the round are what the steps told as completed make of the counters before it, with no number given yet
+  -- the steps told as completed, carried out on the counters before the round with no number given yet, give those behind it
   pub contents :
       let last = round book g .played .state in
       (last .game .counters, last .numbers) ≡ contentsAfter book (historyOf book g) (g .counters, [])

@@ -1,7 +1,7 @@
 -- The game, the marks and the passes of an accepted round are those that the rules give, and no others. That the answer is accepted says
 -- that the game fits; the rest is what is shown of the round that it has played.
 use Prim.Native.Nat.{ℕ, _*_, _≤_, _<_}
-use mathlib.Core.Path.{_≡_, refl, sym, ap, _∙_, subst}
+use mathlib.Core.Path.{_≡_, refl, subst}
 use mathlib.Core.List.{List, []}
 use mathlib.Core.Logic.{dite}
 use native.Mathlib.Bridge.{le-prop}
@@ -9,7 +9,6 @@ use native.Mathlib.Decide.{decLt}
 use native.Mathlib.Omega.{arith}
 use lib.ListN.{length, drop}
 use lib.IntN.{ℤ}
-use Rattle.layout.specs.declared.Verdict.{Verdict}
 use Rattle.layout.specs.Verdicts.{accepted}
 use Rattle.layout.specs.Layout.{routinesOf}
 use Rattle.book.specs.Accepted.{Accepted}
@@ -21,7 +20,7 @@ use Rattle.round.specs.State.{State}
 use Rattle.round.specs.Actions.{positionOf}
 use Rattle.round.specs.Rounds.{round}
 use Rattle.round.specs.Answers.{marksIn, numbersPerMark, answer, spaceFor}
-use Rattle.round.proofs.Telling.{round-tells, answer-verdict, played-out, told-playable}
+use Rattle.round.proofs.Telling.{accepted-played}
 use Rattle.round.proofs.Once.{completed-once}
 use Rattle.round.proofs.Demand.{round-accepted}
 use Rattle.rules.specs.Instructions.{Instruction, nothing}
@@ -37,16 +36,16 @@ module _ (book : List ℕ) (a : Accepted book) where
       ByTheRules book a run s buffer (answer book (s .game) buffer)
   answer-by-the-rules run s buffer z stand e =
       let g = s .game in
-      let h = ap (λ (v : Verdict). v .number) (sym (answer-verdict book g buffer) ∙ e) in
-      let (b, fits, space, few) = told-playable (round-tells book g buffer) h in
+      let ((b, fits, space), played) = accepted-played book g buffer e in
       let (run′, given, stands) = round-given book a run s [] z fits stand in
       let marks = marksIn (round book g .played .told) in
       let room : numbersPerMark * length marks ≤ length buffer = omega (arith, space, completed-once book a g z fits .space) in
-      rw (played-out book g buffer h) (
+      rw played (
       record {
         last = round book g .played .state;
         marks = marks;
         run′ = run′;
+        starts = stand;
         given = given;
         game = refl;
         counts = round-counts book a g z fits;

@@ -31,7 +31,7 @@ use Rattle.round.specs.declared.Act.the-variants.{Goes}
 use Rattle.round.specs.State.{State}
 use Rattle.round.specs.Jumps.{sizeOf, pastPartner, fromEnd}
 use Rattle.round.specs.Ticks.{Tick, telling, fresh, tick, tickOf, tickAt}
-use Rattle.round.proofs.Forms.{if-there, while-there, else-there, end-there}
+use Rattle.round.proofs.Forms.{form-there}
 use Rattle.round.proofs.Jumps.{past-partner, from-if, from-else, from-while}
 use Rattle.rules.specs.Instructions.{TERM, Instruction, nothing, _then_, while, whileInst}
 use Rattle.rules.specs.Instructions as paper
@@ -64,12 +64,12 @@ module _ (counts : Counts) (r : ℕ) (steps : List ℕ) (few : counts .routines 
   else-leads :
       (x : Position) (s : State) {p q : ℕ} → x .place ≡ p → at p ≡ stands ElseMarker → pastPartner steps p ≡ q → JustLeads x s q
   unfolding tickOf
-  else-leads x s {p} l k e = tick-at x s l (else-there counts steps p k) ∙ rw (l, e)
+  else-leads x s {p} l k e = tick-at x s l (form-there counts steps p k) ∙ rw (l, e)
 
   end-leads :
       (x : Position) (s : State) {p q : ℕ} → x .place ≡ p → at p ≡ stands EndMarker → fromEnd steps p ≡ q → JustLeads x s q
   unfolding tickOf
-  end-leads x s {p} l k e = tick-at x s l (end-there counts steps p k) ∙ rw (l, e)
+  end-leads x s {p} l k e = tick-at x s l (form-there counts steps p k) ∙ rw (l, e)
 
   -- the outcome of the turn is fixed
   module _ (h : Ending) (y : Position) (u : State) (us : Marks) where
@@ -156,10 +156,10 @@ module _ (counts : Counts) (r : ℕ) (steps : List ℕ) (few : counts .routines 
         {n : ℕ} {x : Position} {s : State} {ms : Marks} → x .place ≡ p → Turn n x s ms → Tested p n s ms
     unfolding tickOf
     tested p (inl o) {x = x} {s = s} l t =
-        let (c, relation, k, e) = if-there counts steps p o in
+        let (c, relation, k, e) = form-there counts steps p o in
         test-by c relation k _ (ap testOf e) refl (onward t (tick-at x s l e ∙ rw (l, add-one)))
     tested p (inr o) {x = x} {s = s} l t =
-        let (c, relation, k, e) = while-there counts steps p o in
+        let (c, relation, k, e) = form-there counts steps p o in
         test-by c relation k _ (ap testOf e) refl (onward t (tick-at x s l e ∙ rw (l, add-one)))
 
     -- the test of a step that holds one block: i goes into the block, or is over

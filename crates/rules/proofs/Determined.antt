@@ -1,5 +1,5 @@
--- The rules derive nothing else: from one start, two derivations by rules 1 to 32 have the same status, rest and scheduler, a thread or an
--- execution step by rules 33 to 36 the same Boolean and end, and two instants by rules 37 and 38 as many execution steps and one end. By
+-- The rules derive nothing else: from one start, two derivations by rules 1 to 32 have the same status, instruction left and scheduler, a
+-- thread or an execution step by rules 33 to 36 the same Boolean and end, and two instants by rules 37 and 38 as many execution steps and one end. By
 -- induction over both derivations, from starts that are equal: where two rules are for one instruction, their conditions exclude each
 -- other, or they agree.
 use Prim.Native.Nat.{ℕ, _≤_}
@@ -16,7 +16,7 @@ use Rattle.rules.specs.Rules.{rule13, rule14, rule15, rule16, rule17, ru
 use Rattle.rules.specs.Rules.{rule24, rule25, rule26, rule27, rule28, rule29, rule29-again, rule30, rule31, rule32}
 use Rattle.rules.specs.Instants.{Thread, rule33, rule34, InTurn, none, next, ExecutionStep, rule35, rule36, Instant, rule37, rule38}
 
--- what a derivation comes to, in one
+-- what a derivation comes to, as one value
 data Result : Type 0 where
   gives : Status → Instruction → Scheduler → Result
 

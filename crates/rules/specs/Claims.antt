@@ -34,8 +34,8 @@ module _ (book : List ℕ) (a : Accepted book) where
   abbrev pub Stands : (ℕ → Instruction) → Game → Type 0
   Stands run g = (r : ℕ) (h : r < routinesOf book) → run r ⇝ residual book a r h (positionOf (routineAt g r))
 
-  -- Of what a turn, a pass or a round's passes come to from state s, with these marks made before: the rules lead from the scheduler of s
-  -- to that of the state behind, with the marks told behind the others, and the threads stand for the game there.
+  -- d is what a turn, a pass or a round's passes do from state s, with these marks made before. The rules lead from the scheduler of s to
+  -- that of d's state, with d's marks behind the others, and to threads run′ that stand for d's game.
 
   -- A turn of routine r: rules 33 and 34, where "b is a boolean which is true if execution is finished for the current instant".
   abbrev pub TurnRule : ℕ → (ℕ → Instruction) → State → List (ℕ × ℤ) → Played → Type 0
@@ -72,13 +72,14 @@ module _ (book : List ℕ) (a : Accepted book) where
     pub last : State
     pub marks : List (ℕ × ℤ)
     pub run′ : ℕ → Instruction
+    pub starts : Stands run (s .game)
     pub given : Gives run (view s []) (answer .passes) run′ (view last marks)
     pub game : answer .game ≡ last .game
     pub counts : answer .game .counts ≡ s .game .counts
     pub stands : Stands run′ (answer .game)
     pub counted : answer .marks ≡ length marks
-    -- "writes a mark: routine, n", "two to a mark", "in the order made": those of the i-th mark, counted from 0, are the buffer's numbers
-    -- at 2 i and 2 i + 1
+    -- "writes a mark: routine, n", "two to a mark", "in the order made": the routine and the number of the i-th mark, i counted from 0, are
+    -- the buffer's numbers at 2 i and 2 i + 1
     pub buffered :
         (i : ℕ) → i < length marks →
         let mark = getD marks i (0, pos 0) in

@@ -95,6 +95,7 @@ isUnderWay (is COOP) = true
 isUnderWay (is CONT) = true
 isUnderWay stopped = false
 
+-- an empty set, with as many flags
 abbrev pub noFlags : List Bool → List Bool
 noFlags l = map (λ b. false) l
 
@@ -111,7 +112,7 @@ action1 σ =
     let starts = σ .orders .toStart in
     withStatuses (withActual σ (σ .actual ++ starts)) (allAt (is CONT) starts (σ .threads .status))
 
--- Action 2: "replace events by to_broadcast"; so term(t) is there for no thread t
+-- Action 2: "replace events by to_broadcast"; so term(t) is there for no thread t, one flag for each, whatever an earlier round left
 abbrev pub action2 : Scheduler → Scheduler
 action2 σ =
     withCurrent σ (
