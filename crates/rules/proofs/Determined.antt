@@ -1,7 +1,7 @@
 -- The rules derive nothing else: from one start, two derivations by rules 1 to 32 have the same status, instruction left and scheduler, a
--- thread or an execution step by rules 33 to 36 the same Boolean and end, and two instants by rules 37 and 38 as many execution steps and one end. By
--- induction over both derivations, from starts that are equal: where two rules are for one instruction, their conditions exclude each
--- other, or they agree.
+-- thread or an execution step by rules 33 to 36 the same Boolean and end, and two instants by rules 37 and 38 as many execution steps and
+-- one end. By induction over both derivations, from starts that are equal: where two rules are for one instruction, their conditions
+-- exclude each other, or they agree.
 use Prim.Native.Nat.{ℕ, _≤_}
 use mathlib.Core.Path.{_≡_, refl}
 use mathlib.Core.Bool.{Bool}
