@@ -6,7 +6,6 @@ use mathlib.Core.Bool.{true, false, _&&_, not, true≢false, and-false}
 use mathlib.Core.List.{List}
 use mathlib.Core.Logic.{_⊎_, inl, inr}
 use native.Mathlib.Omega.{arith}
-use native.Mathlib.Decide.{ℕ-discrete}
 use borrow.Author.Tests.{ltb-true, eqb-true, ne-eqb, not-true}
 use lib.Dec.{ltb, eqb}
 use lib.ListN.{length, length-set}

@@ -1,5 +1,5 @@
 -- A turn is passed over or taken, and the state behind one that is taken: where its routine stands, whether it goes on in the same round,
--- and what is missing there still. The turn's steps leave its routine in its seat, and the turn's end writes that routine alone.
+-- and what is missing there still. The turn's steps leave its routine where it stands, and the turn's end writes that routine alone.
 use Prim.Native.Nat.{ℕ, _<_}
 use mathlib.Core.Path.{_≡_, refl, sym, ap, _∙_}
 use mathlib.Core.Bool.{Bool, true, false, _||_, not, true≢false, Bool·not-not}
@@ -21,7 +21,7 @@ use Rattle.round.specs.State.{State, withGame, Thing, signal, end, numbe
 use Rattle.round.specs.Actions.{positionOf, placed}
 use Rattle.round.specs.Rounds.{Ticks, stageAfter, withEnd, afterTurn, passedOver, took, Played, isDone, ticksOf, turn}
 use Rattle.round.proofs.Effects.{same-end}
-use Rattle.round.proofs.Seats.{SameSeat}
+use Rattle.round.proofs.Standings.{SameStanding}
 use Rattle.round.proofs.TurnLaws.{isGoing}
 
 -- a routine that takes a turn is not suspended, and in stage 1
@@ -77,14 +77,15 @@ placed-there s r stage y same (end q) =
     same-end s _ q (same-set (λ x. eqb (x .stage) ended) (s .game .routines) r _ blank same q) refl
 placed-there s r stage y same (number e k) = refl
 
--- behind a turn of routine r with these steps, which keep its seat
+-- behind a turn of routine r with these steps, which leave it standing as it did
 module _
-    (r : ℕ) (s : State) (t : Ticks) (seat : SameSeat (routineAt (t .state .game) r) (routineAt (s .game) r)) (going : isGoing s r ≡ true)
+    (r : ℕ) (s : State) (t : Ticks) (standing : SameStanding (routineAt (t .state .game) r) (routineAt (s .game) r))
+    (going : isGoing s r ≡ true)
   where
-    seat-going : (routineAt (t .state .game) r .suspended ≡ false) × (routineAt (t .state .game) r .stage ≡ continuing)
-    seat-going =
+    standing-going : (routineAt (t .state .game) r .suspended ≡ false) × (routineAt (t .state .game) r .stage ≡ continuing)
+    standing-going =
         let (suspended, stage) = going-parts (routineAt (s .game) r .suspended) (routineAt (s .game) r .stage) going in
-        (seat .suspended ∙ suspended, seat .stage ∙ stage)
+        (standing .suspended ∙ suspended, standing .stage ∙ stage)
 
     -- a routine in stage 1 is one of those that the game keeps: behind them all fields are 0
     kept-there : r < length (t .state .game .routines)
@@ -92,7 +93,7 @@ module _
       | yes l ↦ l
       | no n ↦
           let out : routineAt (t .state .game) r ≡ blank = List·getD-eq-default (t .state .game .routines) blank (omega arith) in
-          absurd (omega (arith, ap (λ (x : Routine). x .stage) out, seat-going .1))
+          absurd (omega (arith, ap (λ (x : Routine). x .stage) out, standing-going .1))
     ]
 
     pub routine-after : routineAt (afterTurn r t .game) r ≡ placed (routineAt (t .state .game) r) (stageAfter (t .ending)) (t .position)
@@ -107,10 +108,10 @@ module _
 
     -- it takes another turn in the same round if this one is to be continued
     pub after-going : isGoing (afterTurn r t) r ≡ not (isDone (took (t .ending)))
-    after-going = rw (routine-after, seat-going .0, going-after (t .ending))
+    after-going = rw (routine-after, standing-going .0, going-after (t .ending))
 
     -- what is missing behind the steps is missing behind a turn that is to be continued
     pub after-missing : t .ending ≡ Continued → (thing : Thing) → isThere (t .state) thing ≡ false → isThere (afterTurn r t) thing ≡ false
     after-missing e thing h =
-        let same = placed-there (t .state) r continuing (t .position) (ap (λ n. eqb n ended) (sym (seat-going .1))) thing in
+        let same = placed-there (t .state) r continuing (t .position) (ap (λ n. eqb n ended) (sym (standing-going .1))) thing in
         rw e (same ∙ h)

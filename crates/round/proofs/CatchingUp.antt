@@ -114,7 +114,7 @@ module _ {book : List ℕ} {Listed : ℕ → Type 0} {Ok : State → Type 0} (la
         IsPast q p t (turn book r s .told ++ b)
     owed-other q n few f p t j g w c =
         past-second (turn book r s .told)
-        (f q p t j (others-going turned q n ∙ g) (waits-too book q p t s _ (turned .sits .others q n .position) w) (came c))
+        (f q p t j (others-going turned q n ∙ g) (waits-too book q p t s _ (turned .standings .others q n .position) w) (came c))
       where
         turned : Turned r s (turn book r s .told) (turn book r s .state)
         turned = laws .turned r s l k

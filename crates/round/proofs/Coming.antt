@@ -23,16 +23,15 @@ use Rattle.round.proofs.Acts.{Right, Says}
 use Rattle.round.proofs.Stepping.{ticks-along}
 use Rattle.round.proofs.Effects.{Untouched, untouched-same, untouched-then, effect-untouched, Ungiven, ungiven-same, effect-ungiven}
 use Rattle.round.proofs.Effects.{same-things, Gave, give, give-number}
-use Rattle.round.proofs.Histories.{many-append, stops-none, in-either, gift-given, end-ends}
-pub use Rattle.round.proofs.Histories.{somewhere-append, none-told, isGift}
-use Rattle.round.proofs.Seats.{SameSeats}
+use Rattle.round.proofs.Histories.{many-append, stops-none, in-either, given-by-signals, end-ends}
+pub use Rattle.round.proofs.Histories.{somewhere-append, none-told, isGiven}
 
 -- state u comes of state s, with this told between them
 pub record Carries (s : State) (told : List Happening) (u : State) : Type 0 where
   pub present : length (u .present) ≡ length (s .present)
   pub keeps : (t : Thing) → isThere s t ≡ true → isThere u t ≡ true
   pub brings :
-      length (s .present) ≡ mostSignals → (t : Thing) → isGift t ≡ true → u .tooMany ≡ false → Somewhere (Comes t) told →
+      length (s .present) ≡ mostSignals → (t : Thing) → isGiven t ≡ true → u .tooMany ≡ false → Somewhere (Comes t) told →
       isThere u t ≡ true
   pub came : (t : Thing) → isThere s t ≡ false → isThere u t ≡ true → Somewhere (Comes t) told
   pub few : u .tooMany ≡ false → s .tooMany ≡ false
@@ -53,7 +52,7 @@ carries-none told none a b =
     record {
       present = ap length (b .present);
       keeps = λ t h. same-things a b t ∙ h;
-      brings = λ l t g h k. absurd (none-told givesSignal (Comes t) (gift-given g) told none k);
+      brings = λ l t g h k. absurd (none-told givesSignal (Comes t) (given-by-signals g) told none k);
       came = λ t h k. absurd (true≢false (sym k ∙ same-things a b t ∙ h));
       few = λ h. sym (b .tooMany) ∙ h;
       unmoved = λ h. b .moved;
@@ -110,7 +109,7 @@ carries-one {s} {u} r p e k below b =
     }
   where
     come :
-        length (s .present) ≡ mostSignals → (t : Thing) → isGift t ≡ true → u .tooMany ≡ false →
+        length (s .present) ≡ mostSignals → (t : Thing) → isGiven t ≡ true → u .tooMany ≡ false →
         Somewhere (Comes t) (completed r p ∷ gave e k ∷ []) → isThere u t ≡ true
     come l t g h (inr (inl m)) = come-there t (omega arith) b h m
 
@@ -120,9 +119,6 @@ module _ (counts : Counts) (r : ℕ) (steps : List ℕ) where
   ticks-untouched =
       ticks-along counts r steps (λ s told u. Untouched s u) (λ s. untouched-same) (λ s u v a b first then. untouched-then first then)
       (λ x s e told right says. effect-untouched s e) (λ x s how y told stops. untouched-same)
-
-  pub ticks-seats : (n : ℕ) (x : Position) (s : State) → SameSeats s (ticks n counts r steps x s .state)
-  ticks-seats n x s = ticks-untouched n x s .seats
 
 pub turn-untouched : (book : List ℕ) (r : ℕ) (s : State) → Untouched s (ticksOf book r s .state)
 turn-untouched book r s = ticks-untouched (countsOf book) r (routineSteps book r) _ _ s

@@ -42,7 +42,7 @@ use Rattle.round.proofs.AfterTurn.{taken, turn-over, turn-taken, routin
 use Rattle.round.proofs.Turned.{turn-turned}
 use Rattle.round.proofs.Again.{first-tick}
 use Rattle.round.proofs.Waiting.{by-flag, clash}
-use Rattle.round.proofs.FirstTurn.{Keeps, Completes, standsFirst, Due, due-seat, round-of-one}
+use Rattle.round.proofs.FirstTurn.{Keeps, Completes, standsFirst, Due, due-standing, round-of-one}
 use Rattle.round.proofs.FirstTurn.{due-first, due-last, told-then, thing-past}
 
 -- a turn's first step halts it, or is completed
@@ -115,13 +115,13 @@ module _
             (isGoing (turn book r s .state) r ≡ not (isDone (took how))) × (v .stage ≡ stageAfter how) × (positionOf v ≡ y)
         halts-here act =
             let t = ticksOf book r s in
-            let seat = turn-untouched book r s .seats r in
+            let standing = turn-untouched book r s .standings r in
             let (ending, position) = first-halts (countsOf book) r steps (sizeOf steps) x s (act-here ∙ act) in
             let how = ap (λ (t : Ticks). t .ending) from-here ∙ ending in
             rw (turn-taken book r s (due .0)) (
-              after-going r s t seat (due .0) ∙ ap (λ h. not (isDone (took h))) how,
-              ap (λ (v : Routine). v .stage) (routine-after r s t seat (due .0)) ∙ ap stageAfter how,
-              position-after r s t seat (due .0) ∙ ap (λ (t : Ticks). t .position) from-here ∙ position,
+              after-going r s t standing (due .0) ∙ ap (λ h. not (isDone (took h))) how,
+              ap (λ (v : Routine). v .stage) (routine-after r s t standing (due .0)) ∙ ap stageAfter how,
+              position-after r s t standing (due .0) ∙ ap (λ (t : Ticks). t .position) from-here ∙ position,
             )
 
       -- the routine rests on the step, with one less left
@@ -163,9 +163,9 @@ module _
             let (between, two) = second m in
             let (start, one) = first between in
             (start, λ h. two (one h)))
-            (λ s u told seat keeps m. (
+            (λ s u told standing keeps m. (
               was-missing s u keeps timed m,
-              ⊎-elim (λ due. inl (due-seat g r s u seat due)) (λ h. inr (seat .stage ∙ h .0, seat .position ∙ h .1)),
+              ⊎-elim (λ due. inl (due-standing g r s u standing due)) (λ h. inr (standing .stage ∙ h .0, standing .position ∙ h .1)),
             ))
             own in
             ⊎-elim (λ due. absurd (due-last book a g z f r inside awake due)) (λ h. h)

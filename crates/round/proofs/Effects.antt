@@ -1,4 +1,4 @@
--- What a step's effect does to the things that a try asks for, to the flags, and to where each routine sits. By cases on the effect: one
+-- What a step's effect does to the things that a try asks for, to the flags, and to where each routine stands. By cases on the effect: one
 -- that gives no signal touches none of them, and one that gives makes its signal and its number there, and nothing else, and takes nothing
 -- away.
 use Prim.Native.Nat.{ℕ, zero, suc, _+_, _<_, _≤_}
@@ -27,24 +27,24 @@ use Rattle.round.specs.Actions.{positionOf}
 use Rattle.round.specs.Ticks.{mostNumbers, given, effectOn}
 use Rattle.round.specs.Demand.{Comes}
 use Rattle.round.proofs.Acts.{isGiving}
-use Rattle.round.proofs.Seats.{SameSeat, seat-then, SameSeats}
-pub use Rattle.round.proofs.Seats.{same-seat}
+use Rattle.round.proofs.Standings.{SameStanding, standing-then, SameStandings}
+pub use Rattle.round.proofs.Standings.{same-standing}
 
 -- what no effect touches
 pub record Untouched (s u : State) : Type 0 where
-  pub seats : SameSeats s u
+  pub standings : SameStandings s u
   pub listed : u .game .listed ≡ s .game .listed
   pub counts : u .game .counts ≡ s .game .counts
   pub endSignals : u .endSignals ≡ s .endSignals
   pub eoi : u .eoi ≡ s .eoi
 
 pub untouched-same : {s : State} → Untouched s s
-untouched-same = record { seats = λ q. same-seat; listed = refl; counts = refl; endSignals = refl; eoi = refl }
+untouched-same = record { standings = λ q. same-standing; listed = refl; counts = refl; endSignals = refl; eoi = refl }
 
 pub untouched-then : {s u v : State} → Untouched s u → Untouched u v → Untouched s v
 untouched-then a b =
     record {
-      seats = λ q. seat-then (a .seats q) (b .seats q);
+      standings = λ q. standing-then (a .standings q) (b .standings q);
       listed = b .listed ∙ a .listed;
       counts = b .counts ∙ a .counts;
       endSignals = b .endSignals ∙ a .endSignals;
@@ -57,7 +57,7 @@ module _ (s : State) where
       u .endSignals ≡ s .endSignals → u .eoi ≡ s .eoi → Untouched s u
   untouched-but e l c n o =
       record {
-        seats = λ q. subst (λ xs. SameSeat (getD xs q blank) (routineAt (s .game) q)) (sym e) same-seat;
+        standings = λ q. subst (λ xs. SameStanding (getD xs q blank) (routineAt (s .game) q)) (sym e) same-standing;
         listed = l;
         counts = c;
         endSignals = n;
@@ -68,7 +68,7 @@ module _ (s : State) where
       (t : ℕ) (a b c : Bool) → Untouched s (withGame s (withRoutine (s .game) t (withFlags (routineAt (s .game) t) a b c)))
   flags-untouched t a b c =
       record {
-        seats =
+        standings =
             λ q.
             record {
               stage = same-set (λ x. x .stage) (s .game .routines) t _ blank refl q;
@@ -134,7 +134,7 @@ same-end s u r h k = rw (h, k)
 pub same-things : {s u : State} → Untouched s u → Ungiven s u → (t : Thing) → isThere u t ≡ isThere s t
 unfolding isThere
 same-things a b (signal e) = ap (λ l. getD l e false) (b .present)
-same-things {s} {u} a b (end r) = same-end s u r (ap (λ n. eqb n stage.ended) (a .seats r .stage)) (a .endSignals)
+same-things {s} {u} a b (end r) = same-end s u r (ap (λ n. eqb n stage.ended) (a .standings r .stage)) (a .endSignals)
 same-things a b (number e k) = ap (λ l. leb k (length (numbersWith e l))) (b .numbers)
 
 -- a flag that is set stays set where another one is

@@ -149,7 +149,7 @@ module _ (book : List ℕ) (a : Accepted book) (g : Game) (z : Sized g) (f : Fit
         turn-by book r s (λ p. howMany test (p .told) + counted test s r ≡ counted test (p .state) r) (λ h. omega arith)
         (λ h.
         let now : routineAt (s .game) r .stage ≡ continuing = going-parts (routineAt (s .game) r .suspended) _ h .1 in
-        let after = ap (λ (x : Routine). x .stage) (routine-after r s t (turn-untouched book r s .seats r) h) in
+        let after = ap (λ (x : Routine). x .stage) (routine-after r s t (turn-untouched book r s .standings r) h) in
         rw (now, after, and-false (test (ended r))) (omega (arith, stops-told test only (shape .stops))))
 
     abbrev total : State → ℕ
@@ -171,7 +171,7 @@ module _ (book : List ℕ) (a : Accepted book) (g : Game) (z : Sized g) (f : Fit
     claim-turn r s (l, inside) ok =
         let u = turn book r s .state in
         let others : (q : ℕ) → q ≢ r → counted test u q ≡ counted test s q =
-        λ q n. ap (λ k. one (test (ended q) && eqb k stage.ended)) (turn-turned book a r s l ok .sits .others q n .stage) in
+        λ q n. ap (λ k. one (test (ended q) && eqb k stage.ended)) (turn-turned book a r s l ok .standings .others q n .stage) in
         own-sum (counted test s) (counted test u) r others _ (own-told r s l) (listedIn g) distinct inside
 
     claim-again : (s : State) → Claim s [] (again s)

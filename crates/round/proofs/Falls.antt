@@ -56,8 +56,8 @@ module _ (counts : Counts) (steps : List ℕ) where
   by-either k a b false = rw k b
 
   -- the whiles in a step pause
-  abbrev Fine : {d p e : ℕ} → ParsedStep at d p e → Type 0
-  Fine s = EachWhileOf at (λ p pauses. pauses ≡ true) s
+  abbrev WhilesPauseIn : {d p e : ℕ} → ParsedStep at d p e → Type 0
+  WhilesPauseIn s = EachWhileOf at (λ p pauses. pauses ≡ true) s
 
   -- from the first place of a block or a step: it pauses, or every way from behind it comes to a halt
   mutual
@@ -66,7 +66,7 @@ module _ (counts : Counts) (steps : List ℕ) where
     from-block empty w (inr k) = k
     from-block (more s b) w k = from-step s (w .0) (first-pauses (stepPauses at s) (blockPauses at b) (from-block b (w .1)) k)
 
-    from-step : {d p e : ℕ} (s : ParsedStep at d p e) → Fine s → (stepPauses at s ≡ true) ⊎ Ends e → Ends p
+    from-step : {d p e : ℕ} (s : ParsedStep at d p e) → WhilesPauseIn s → (stepPauses at s ≡ true) ⊎ Ends e → Ends p
     from-step (plain h) w (inl t) = absurd (true≢false (sym t))
     from-step (plain h) w (inr k) = at-plain h k
     from-step (pausing h) w k = at-pausing h
@@ -97,7 +97,7 @@ module _ (counts : Counts) (steps : List ℕ) where
           | no n ↦ in-step s (w .0) (from-block b (w .1) (inr k)) x l (omega arith)
         ]
 
-    in-step : {d p e : ℕ} (s : ParsedStep at d p e) → Fine s → Ends e → (x : ℕ) → p ≤ x → x < e → Ends x
+    in-step : {d p e : ℕ} (s : ParsedStep at d p e) → WhilesPauseIn s → Ends e → (x : ℕ) → p ≤ x → x < e → Ends x
     in-step (plain h) w k x l m = subst Ends (omega arith) (at-plain h k)
     in-step (pausing h) w k x l m = subst Ends (omega arith) (at-pausing h)
     in-step (ifOnly {p = p} h b e) w k x l m =

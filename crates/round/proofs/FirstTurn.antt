@@ -27,7 +27,7 @@ use Rattle.round.proofs.Histories.{somewhere-append, in-first, in-secon
 use Rattle.round.proofs.After.{round-along}
 use Rattle.round.proofs.Sound.{Sound}
 use Rattle.round.proofs.Starting.{among-listed, listed-stage}
-use Rattle.round.proofs.Seats.{SameSeat, same-seat}
+use Rattle.round.proofs.Standings.{SameStanding, same-standing}
 use Rattle.round.proofs.AfterTurn.{going-parts}
 use Rattle.round.proofs.Turned.{turn-turned}
 use Rattle.round.proofs.Again.{misses-again, goes-past}
@@ -64,8 +64,8 @@ module _ (g : Game) (r : ℕ) where
   abbrev pub Due : State → Type 0
   Due s = (isGoing s r ≡ true) × (positionOf (routineAt (s .game) r) ≡ standsFirst)
 
-  pub due-seat : (s u : State) → SameSeat (routineAt (u .game) r) (routineAt (s .game) r) → Due s → Due u
-  due-seat s u seat (going, here) = (rw (seat .suspended, seat .stage) going, seat .position ∙ here)
+  pub due-standing : (s u : State) → SameStanding (routineAt (u .game) r) (routineAt (s .game) r) → Due s → Due u
+  due-standing s u standing (going, here) = (rw (standing .suspended, standing .stage) going, standing .position ∙ here)
 
 module _ (book : List ℕ) (a : Accepted book) (g : Game) (z : Sized g) (f : Fits book g) (r : ℕ) where
   abbrev back : State
@@ -76,20 +76,20 @@ module _ (book : List ℕ) (a : Accepted book) (g : Game) (z : Sized g) (f : Fit
       (Claim : State → List Happening → State → Type 0)
       (both : (s u v : State) (b c : List Happening) → Claim s b u → Claim u c v → Claim s (b ++ c) v)
       (others :
-      (s u : State) (told : List Happening) → SameSeat (routineAt (u .game) r) (routineAt (s .game) r) → Keeps s u → Claim s told u)
+      (s u : State) (told : List Happening) → SameStanding (routineAt (u .game) r) (routineAt (s .game) r) → Keeps s u → Claim s told u)
       (own : (s : State) → r < routinesOf book → Sound book s → Claim s (turn book r s .told) (turn book r s .state))
     where
       each-turn :
           (q : ℕ) (s : State) → q < routinesOf book → Sound book s → Claim s (turn book q s .told) (turn book q s .state)
       each-turn q s l ok = elim (ℕ-discrete r q) [
         | yes e ↦ subst (λ i. i < routinesOf book → Claim s (turn book i s .told) (turn book i s .state)) e (λ m. own s m ok) l
-        | no n ↦ let turned = turn-turned book a q s l ok in others s _ _ (turned .sits .others r n) (turned .keeps)
+        | no n ↦ let turned = turn-turned book a q s l ok in others s _ _ (turned .standings .others r n) (turned .keeps)
       ]
 
       pub round-of-one : Claim (atStart g) (historyOf book g) back
       round-of-one =
-          round-along book a g z f Claim (λ s. others s s [] same-seat (λ t h. h)) both (λ q s l. each-turn q s (l .0))
-          (λ s. others s (again s) [] same-seat (λ t h. there-again s t ∙ h))
+          round-along book a g z f Claim (λ s. others s s [] same-standing (λ t h. h)) both (λ q s l. each-turn q s (l .0))
+          (λ s. others s (again s) [] same-standing (λ t h. there-again s t ∙ h))
 
   module _ (inside : Among r (listedIn g)) (awake : routineAt (atStart g .game) r .suspended ≡ false) where
     pub due-first : Due g r (atStart g)
@@ -108,7 +108,7 @@ module _ (book : List ℕ) (a : Accepted book) (g : Game) (z : Sized g) (f : Fit
         round-of-one (λ s told u. Due g r s → Somewhere P told ⊎ Due g r u)
         (λ s u v b c first second due.
         ⊎-elim (λ w. inl (in-first P b c w)) (λ k. ⊎-elim (λ w. inl (in-second P b c w)) (λ m. inr m) (second k)) (first due))
-        (λ s u told seat keeps due. inr (due-seat g r s u seat due)) (λ s l ok due. inl (tells s due)) in
+        (λ s u told standing keeps due. inr (due-standing g r s u standing due)) (λ s l ok due. inl (tells s due)) in
         ⊎-elim (λ w. w) (λ due. absurd (due-last due)) (all due-first)
 
     -- the step there asks for a thing that is there at the round's end

@@ -92,22 +92,22 @@ module _ {A : Type 0} (P : A → Type 0) where
   in-either a b false f s = in-second a b (s refl)
 
 -- a thing that a step gives
-abbrev pub isGift : Thing → Bool
-isGift (signal e) = true
-isGift (end r) = false
-isGift (number e k) = true
+abbrev pub isGiven : Thing → Bool
+isGiven (signal e) = true
+isGiven (end r) = false
+isGiven (number e k) = true
 
 -- it comes with a signal given, and a routine's end with an end
-pub gift-given : {t : Thing} → isGift t ≡ true → (h : Happening) → Comes t h → givesSignal h ≡ true
-gift-given g h signalGiven = refl
-gift-given g h routineEnded = absurd (true≢false (sym g))
-gift-given g h numberGiven = refl
+pub given-by-signals : {t : Thing} → isGiven t ≡ true → (h : Happening) → Comes t h → givesSignal h ≡ true
+given-by-signals g h signalGiven = refl
+given-by-signals g h routineEnded = absurd (true≢false (sym g))
+given-by-signals g h numberGiven = refl
 
 pub end-ends : {r : ℕ} (h : Happening) → Comes (end r) h → endsRoutine h ≡ true
 end-ends h routineEnded = refl
 
 -- so where nothing moves, nothing comes
 pub nothing-comes : (t : Thing) (told : List Happening) → moves told ≡ 0 → Somewhere (Comes t) told → ⊥
-nothing-comes (signal e) told m = none-told givesSignal (Comes (signal e)) (gift-given refl) told (omega arith)
+nothing-comes (signal e) told m = none-told givesSignal (Comes (signal e)) (given-by-signals refl) told (omega arith)
 nothing-comes (end r) told m = none-told endsRoutine (Comes (end r)) end-ends told (omega arith)
-nothing-comes (number e k) told m = none-told givesSignal (Comes (number e k)) (gift-given refl) told (omega arith)
+nothing-comes (number e k) told m = none-told givesSignal (Comes (number e k)) (given-by-signals refl) told (omega arith)

@@ -1,4 +1,5 @@
 -- Turns of the routines of an accepted book have the laws that the theory of passes asks of them, in every state that a round keeps sound.
+-- Soundness stays (Staying.antt); what a turn does, how it comes out and what a try again does are gathered here, each from its own file.
 use Prim.Native.Nat.{ℕ, _<_}
 use mathlib.Core.List.{List}
 use Rattle.layout.specs.Layout.{routinesOf}

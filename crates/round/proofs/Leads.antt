@@ -1,4 +1,5 @@
--- Where the step at a place of a routine leads, by the form that stands there: the edges along which a turn goes.
+-- Where the step at a place of a routine leads, by the form that stands there: the edges along which a turn goes. An opening has two, one
+-- for each outcome of its test, and a pause has none, unless it is a timed rest that is over.
 use Prim.Native.Nat.{ℕ, _+_}
 use mathlib.Core.Path.{_≡_}
 use mathlib.Core.Bool.{Bool, true, false}

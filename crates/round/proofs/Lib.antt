@@ -27,7 +27,7 @@ pub mod Listing
 pub mod Sound
 pub mod Starting
 -- what steps and turns keep and bring
-pub mod Seats
+pub mod Standings
 pub mod Effects
 pub mod Fitting
 pub mod AfterTurn

@@ -1,4 +1,5 @@
--- Of the set with one step, distinct routines have at most that one.
+-- Of the set with one step alone, different routines together have at most that one: one of them at most is the step's routine, and one of
+-- its places is the step's. By induction on the routines, and on the places counted of each.
 use Prim.Native.Nat.{ℕ, zero, suc, _<_, _≤_}
 use mathlib.Core.Path.{_≡_, refl, sym, subst}
 use mathlib.Core.Bool.{Bool, false, _&&_}

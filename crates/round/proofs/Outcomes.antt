@@ -44,7 +44,7 @@ module _ (book : List ℕ) (a : Accepted book) where
     untouched = turn-untouched book r s
 
     out : isGoing (afterTurn r all) r ≡ not (isDone (took (all .ending)))
-    out = after-going r s all (untouched .seats r) going
+    out = after-going r s all (untouched .standings r) going
 
     pub turn-out :
         (h : Ending) × (turn book r s .turns ≡ took h ∷ []) × (isGoing (turn book r s .state) r ≡ not (isDone (took h)))
@@ -57,14 +57,14 @@ module _ (book : List ℕ) (a : Accepted book) where
         rw (turn-taken book r s going) (λ h.
         let stop = stops-continued (countsOf book) r steps (shape .stops) (not-true _ (sym out ∙ h)) in
         let (thing, asks, missed, unclosed, how, position, told) = stop in
-        let there = position-after r s all (untouched .seats r) going ∙ position in (
+        let there = position-after r s all (untouched .standings r) going ∙ position in (
           sym (untouched .eoi) ∙ unclosed,
           record {
             place = shape .last .place;
             thing = thing;
             before = shape .before;
             waits = waits-at book (afterTurn r all) r there asks;
-            missed = after-missing r s all (untouched .seats r) going how thing missed;
+            missed = after-missing r s all (untouched .standings r) going how thing missed;
             history = shape .history ∙ ap (λ l. shape .before ++ l) told;
             calm = shape .noMiss;
           },

@@ -46,7 +46,9 @@ worth left r s = if isGoing s r then left r (positionOf (routineAt (s .game) r))
 pub turn-spares :
     (book : List ℕ) → Accepted book → (left : ℕ → Position → ℕ) (r q : ℕ) (s : State) → r < routinesOf book → Sound book s → q ≢ r →
     worth left q (turn book r s .state) ≡ worth left q s
-turn-spares book a left r q s l ok n = let e = turn-turned book a r s l ok .sits .others q n in cc (e .stage, e .suspended, e .position)
+turn-spares book a left r q s l ok n =
+    let e = turn-turned book a r s l ok .standings .others q n in
+    cc (e .stage, e .suspended, e .position)
 
 module _
     (book : List ℕ) (test : Happening → Bool) (left : ℕ → Position → ℕ) (r : ℕ)
@@ -84,9 +86,9 @@ module _
     unfolding howMany
     pays s =
         let t = ticksOf book r s in
-        let seat = turn-untouched book r s .seats r in
+        let standing = turn-untouched book r s .standings r in
         turn-by book r s (λ p. howMany test (p .told) + worth left r (p .state) ≤ worth left r s) (λ h. omega arith)
-        (λ h. rw (after-going r s t seat h, position-after r s t seat h, h) (ticks-pay _ _ s))
+        (λ h. rw (after-going r s t standing h, position-after r s t standing h, h) (ticks-pay _ _ s))
 
 -- one step more, in the set or not, where n are left behind it
 one-more : (t : Bool) (k m n : ℕ) → k ≡ 0 → n + (if t then 1 else 0) ≤ m → (if t then k + 1 else k) + n ≤ m

@@ -164,5 +164,5 @@ module _ (book : List ℕ) (a : Accepted book) where
       let turned = placed-sound book a r below (t .state) sound (stageAfter (t .ending)) (t .position) in
       turn-by book r s (λ p. Sound book (p .state)) (λ k. h)
       (λ k.
-      let stage = turn-untouched book r s .seats r .stage ∙ going-parts (x .suspended) (x .stage) k .1 in
+      let stage = turn-untouched book r s .standings r .stage ∙ going-parts (x .suspended) (x .stage) k .1 in
       end-keeps (Sound book) (t .ending) r _ (end-sound r) (turned stage low high stand))

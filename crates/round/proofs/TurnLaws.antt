@@ -23,7 +23,7 @@ use Rattle.round.specs.Rounds.{passedOver, took, isDone, again, turn}
 use Rattle.round.specs.Demand.{givesSignal, endsRoutine, Comes, IsPast}
 use Rattle.round.specs.Whole.{isMiss}
 use Rattle.round.proofs.Acts.{Asks}
-use Rattle.round.proofs.Seats.{SameSeat}
+use Rattle.round.proofs.Standings.{SameStanding}
 
 -- routine r takes a turn in this state (rule 34), and is not passed over (rule 33)
 abbrev pub takesTurn : Routine → Bool
@@ -36,15 +36,15 @@ isGoing s r = takesTurn (routineAt (s .game) r)
 abbrev pub moves : List Happening → ℕ
 moves told = howMany givesSignal told + howMany endsRoutine told
 
--- a game in which routine r alone may sit elsewhere, and none is suspended or resumed, or joins the playing order or leaves it
-pub record Sits (r : ℕ) (g h : Game) : Type 0 where
+-- a game in which routine r alone may stand elsewhere, and none is suspended or resumed, or joins the playing order or leaves it
+pub record OthersStand (r : ℕ) (g h : Game) : Type 0 where
   pub listed : h .listed ≡ g .listed
   pub suspended : (q : ℕ) → routineAt h q .suspended ≡ routineAt g q .suspended
-  pub others : (q : ℕ) → q ≢ r → SameSeat (routineAt h q) (routineAt g q)
+  pub others : (q : ℕ) → q ≢ r → SameStanding (routineAt h q) (routineAt g q)
 
 -- what a turn of routine r in state s does, which told this and leaves state v
 pub record Turned (r : ℕ) (s : State) (told : List Happening) (v : State) : Type 0 where
-  pub sits : Sits r (s .game) (v .game)
+  pub standings : OthersStand r (s .game) (v .game)
   pub eoi : v .eoi ≡ s .eoi
   pub keeps : (t : Thing) → isThere s t ≡ true → isThere v t ≡ true
   pub brings : (t : Thing) → v .tooMany ≡ false → Somewhere (Comes t) told → isThere v t ≡ true
@@ -56,7 +56,7 @@ pub record Turned (r : ℕ) (s : State) (told : List Happening) (v : State) : Ty
 -- the other routines take turns as before
 pub others-going :
     {r : ℕ} {s v : State} {told : List Happening} → Turned r s told v → (q : ℕ) → q ≢ r → isGoing v q ≡ isGoing s q
-others-going turned q n = let same = turned .sits .others q n in rw (same .suspended, same .stage)
+others-going turned q n = let same = turned .standings .others q n in rw (same .suspended, same .stage)
 
 module _ (book : List ℕ) where
   -- routine r stands at a step, at place p, that asks for thing t
@@ -93,7 +93,7 @@ module _ (book : List ℕ) where
     -- what a state keeps in a round
     pub stays : (r : ℕ) (s : State) → Listed r → Ok s → Ok (turn book r s .state)
     pub staysAgain : (s : State) → Ok s → Ok (again s)
-    -- what a turn does to the things, to the flags and to where routines sit
+    -- what a turn does to the things, to the flags and to where routines stand
     pub turned : (r : ℕ) (s : State) → Listed r → Ok s → Turned r s (turn book r s .told) (turn book r s .state)
     -- how a turn comes out
     pub over :

@@ -1,4 +1,4 @@
--- What a turn does to the things, to the flags, and to where routines sit, by what its steps do and how the last of them halts it. Its
+-- What a turn does to the things, to the flags, and to where routines stand, by what its steps do and how the last of them halts it. Its
 -- routine is continuing, so before the turn its end is there by its end signal at most; a turn that ends it tells so last, and then its end
 -- is there.
 use Prim.Native.Nat.{ℕ, _<_}
@@ -31,10 +31,10 @@ use Rattle.round.proofs.Acts.{Stops}
 use Rattle.round.proofs.Coming.{Carries, all-brought, turn-untouched, ticks-carry}
 use Rattle.round.proofs.Effects.{Untouched}
 use Rattle.round.proofs.Histories.{many-append, none-of-both, none-told, somewhere-append, in-second, end-ends}
-use Rattle.round.proofs.Seats.{SameSeat, same-seat}
+use Rattle.round.proofs.Standings.{SameStanding, same-standing}
 use Rattle.round.proofs.AfterTurn.{going-parts, turn-by, placed-there}
 use Rattle.round.proofs.Shaping.{Shape}
-use Rattle.round.proofs.TurnLaws.{moves, Sits, Turned}
+use Rattle.round.proofs.TurnLaws.{moves, OthersStand, Turned}
 use Rattle.round.proofs.Sound.{Sound}
 use Rattle.round.proofs.Outcomes.{turn-shape}
 
@@ -42,7 +42,7 @@ passed-over : {r : ℕ} {s : State} → Turned r s [] s
 unfolding howMany
 passed-over =
     record {
-      sits = record { listed = refl; suspended = λ q. refl; others = λ q n. same-seat };
+      standings = record { listed = refl; suspended = λ q. refl; others = λ q n. same-standing };
       eoi = refl;
       keeps = λ t h. h;
       brings = λ t h k. absurd k;
@@ -70,15 +70,15 @@ module _
     abbrev behind : Ending → Position → State
     behind how y = afterTurn r (record { ending = how; position = y; state = u; told = told })
 
-    placed-sits : (next : ℕ) (y : Position) → Sits r (s .game) (withRoutine (u .game) r (placed (routineAt (u .game) r) next y))
-    placed-sits next y =
+    placed-standings : (next : ℕ) (y : Position) → OthersStand r (s .game) (withRoutine (u .game) r (placed (routineAt (u .game) r) next y))
+    placed-standings next y =
         record {
           listed = a .listed;
-          suspended = λ q. same-set (λ x. x .suspended) (u .game .routines) r _ blank refl q ∙ a .seats q .suspended;
+          suspended = λ q. same-set (λ x. x .suspended) (u .game .routines) r _ blank refl q ∙ a .standings q .suspended;
           others =
               λ q n.
               let e = getD-set-other (u .game .routines) r q (placed (routineAt (u .game) r) next y) blank n in
-              subst (λ x. SameSeat x (routineAt (s .game) q)) (sym e) (a .seats q);
+              subst (λ x. SameStanding x (routineAt (s .game) q)) (sym e) (a .standings q);
         }
 
     -- a turn that does not end the routine
@@ -87,7 +87,7 @@ module _
       after = withGame u (withRoutine (u .game) r (placed (routineAt (u .game) r) next y))
 
       not-ended : eqb (routineAt (u .game) r .stage) stage.ended ≡ false
-      not-ended = ap (λ n. eqb n stage.ended) (a .seats r .stage ∙ goes)
+      not-ended = ap (λ n. eqb n stage.ended) (a .standings r .stage ∙ goes)
 
       same-there : (t : Thing) → isThere after t ≡ isThere u t
       same-there = placed-there u r next y (other ∙ sym not-ended)
@@ -95,7 +95,7 @@ module _
       resting-turned : Turned r s told after
       resting-turned =
           record {
-            sits = placed-sits next y;
+            standings = placed-standings next y;
             eoi = a .eoi;
             keeps = λ t h. same-there t ∙ c .keeps t h;
             brings = λ t h k. same-there t ∙ all-brought c signals noEnd t h k;
@@ -156,7 +156,7 @@ module _
         ending-turned : Turned r s told last
         ending-turned =
             record {
-              sits = placed-sits stage.ended y;
+              standings = placed-standings stage.ended y;
               eoi = a .eoi;
               keeps = λ t h. stays t (c .keeps t h);
               brings = brought;

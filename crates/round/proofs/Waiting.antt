@@ -144,7 +144,7 @@ module _ {book : List ℕ} {Listed : ℕ → Type 0} {Ok : State → Type 0} (la
       record {
         place = w .place;
         thing = w .thing;
-        waits = waits-too book q (w .place) (w .thing) s _ (turned .sits .others q n .position) (w .waits);
+        waits = waits-too book q (w .place) (w .thing) s _ (turned .standings .others q n .position) (w .waits);
         missed =
             not-true-false _ (λ t.
             nothing-comes (w .thing) (turn book r s .told) m (turned .came (w .thing) (w .missed) t));

@@ -4,6 +4,7 @@ pub mod Actions
 pub mod Jumps
 pub mod Ticks
 pub mod Rounds
+pub mod Enough
 pub mod Answers
 pub mod Tells
 pub mod Timed
@@ -13,4 +14,3 @@ pub mod Whole
 pub mod Again
 pub mod SetPlays
 pub mod Examples
-pub mod Enough

@@ -30,7 +30,7 @@ use Rattle.rules.specs.Instructions.{signal}
 use Rattle.rules.specs.Schedulers.{Stage, Scheduler, isAmong, statusOf, isNotStarted, moved, withEvent, withValue, put}
 use Rattle.rules.specs.Schedulers.{withMark, withOrders, withThreads, withStart, withStop, withSuspend, withResume}
 use Rattle.rules.specs.View.{view}
-use Rattle.rules.proofs.Walks.{Marks, Fine}
+use Rattle.rules.proofs.Walks.{Marks, HasRoom}
 use Rattle.rules.proofs.Stages.{seen, not-started-view}
 use Rattle.rules.proofs.Lines.{entries-among}
 
@@ -148,20 +148,20 @@ joins-view s ms t true e = ap (λ l. starting l (view s ms)) (e refl)
 joins-view s ms t false e = refl
 
 pub start-view :
-    {routines : ℕ} (s : State) (ms : Marks) (t : ℕ) → Fine routines s → t < routines → routines ≤ mostRoutines →
+    {routines : ℕ} (s : State) (ms : Marks) (t : ℕ) → HasRoom routines s → t < routines → routines ≤ mostRoutines →
     view (effectOn (Start t) s) ms ≡ withStart t (view s ms)
 unfolding effectOn game.withStart
-start-view s ms t fine below few =
+start-view s ms t space below few =
     let l = s .game .starting in
-    let right = fine .starting in
+    let right = space .starting in
     let unstarted = eqb (routineAt (s .game) t .stage) notStarted in
     let new = unstarted && not (isIn l t) in
     let same : (isNotStarted (statusOf (view s ms) t) && not (isAmong t (view s ms .orders .toStart))) ≡ new =
-    unfold view in rw (not-started-view s ms t, entries-among l right (fine .items) t)
+    unfold view in rw (not-started-view s ms t, entries-among l right (space .items) t)
     in
     rw same (
     joins-view s ms t new (λ e.
     let absent = not-true (isIn l t) (and-both unstarted (not (isIn l t)) e .1) in
     let apart : In l t → ⊥ = λ v. false≢true (sym absent ∙ is-in l (right .short) t .1 v) in
-    pushed-entries l t (fine .items) (omega (arith, room l t right below apart, few)))
+    pushed-entries l t (space .items) (omega (arith, room l t right below apart, few)))
     )

@@ -43,7 +43,7 @@ use Rattle.rules.specs.Rules.{⟨_&_⟩⟶[_]⟨_&_⟩, rule1, rule11, r
 use Rattle.rules.specs.Rules.{rule28, rule30, rule31, rule32}
 use Rattle.rules.specs.Residual.{instruction}
 use Rattle.rules.specs.View.{view}
-use Rattle.rules.proofs.Walks.{Marks, Fine, statusAfter}
+use Rattle.rules.proofs.Walks.{Marks, HasRoom, statusAfter}
 use Rattle.rules.proofs.Effects.{nothing-view, mark-view, count-view, add-view, give-view, give-number-view, start-view, stop-view}
 use Rattle.rules.proofs.Effects.{suspend-view, resume-view}
 use Rattle.rules.proofs.Tries.{coop-term, cont-term, values-numbers, number-given, number-missing, Idle, Tried, tried-wait}
@@ -78,7 +78,7 @@ module _ (counts : Counts) (r : ℕ) (steps : List ℕ) where
   abbrev ActByRule : Kind → Position → State → Marks → Act → Marks → Type 0
   ActByRule k x s ms (Goes q e) new =
       (q ≡ suc (x .place))
-      × (Fine (counts .routines) s → Fine (counts .routines) (effectOn e s) →
+      × (HasRoom (counts .routines) s → HasRoom (counts .routines) (effectOn e s) →
       ⟨ instruction r x k & view s ms ⟩⟶[ TERM ]⟨ nothing & view (effectOn e s) (ms ++ new) ⟩)
   ActByRule k x s ms (Halts h y) new = Halted r k x s ms h y
 
@@ -89,7 +89,7 @@ module _ (counts : Counts) (r : ℕ) (steps : List ℕ) where
     -- the turn goes on behind an effect, with no mark
     changes :
         (e : Effect) {σ : Scheduler} →
-        (Fine (counts .routines) s → Fine (counts .routines) (effectOn e s) → view (effectOn e s) ms ≡ σ) →
+        (HasRoom (counts .routines) s → HasRoom (counts .routines) (effectOn e s) → view (effectOn e s) ms ≡ σ) →
         ⟨ instruction r x k & view s ms ⟩⟶[ TERM ]⟨ nothing & σ ⟩ →
         ActByRule k x s ms (onward r steps x s e) []
     changes e same h = (add-one (x .place), λ f g. rw (append-nil, same f g) h)

@@ -11,7 +11,7 @@ use native.Mathlib.Decide.{ℕ-discrete}
 use native.Mathlib.Numerals.{add-one}
 use borrow.Author.Tests.{eq-eqb, ne-eqb}
 use lib.Dec.{eqb}
-use Rattle.layout.specs.Layout.{routinesOf, countsOf}
+use Rattle.layout.specs.Layout.{routinesOf}
 use Rattle.book.specs.Book.{routineSteps}
 use Rattle.book.specs.Accepted.{Accepted}
 use Rattle.game.specs.declared.Routine.{Routine}
@@ -33,7 +33,7 @@ use Rattle.round.proofs.Sound.{Sound}
 use Rattle.round.proofs.TurnLaws.{isGoing}
 use Rattle.round.proofs.Parsed.{size-same}
 use Rattle.round.proofs.Lasting.{routine-in-time}
-use Rattle.round.proofs.Coming.{ticks-seats}
+use Rattle.round.proofs.Coming.{turn-untouched}
 use Rattle.round.proofs.AfterTurn.{going-parts, end-keeps, position-after, turn-over, taken, turn-taken}
 use Rattle.round.proofs.Staying.{turn-sound, again-sound}
 use Rattle.round.proofs.Turned.{turn-turned}
@@ -97,15 +97,15 @@ module _ (book : List ℕ) (a : Accepted book) where
           let after : ℕ → Position = λ p. positionOf (routineAt (afterTurn r t .game) p) in
           elim (ℕ-discrete q r) [
             | yes e ↦
-                let seat = ticks-seats (countsOf book) r steps (mostTicks steps) (positionOf x) s r in
-                let own : after r ≡ t .position = position-after r s t seat going in
+                let standing = turn-untouched book r s .standings r in
+                let own : after r ≡ t .position = position-after r s t standing going in
                 subst (λ q. (m : q < R) → runs run r i q ⇝ residual book a q m (after q)) (sym e)
                 (λ m. rw (eq-eqb r r refl, own) (subst (λ m. i ⇝ residual book a r m (t .position)) (le-prop l m) w))
                 m
             | no n ↦
                 let other : after q ≡ positionOf (routineAt (s .game) q) =
                 sym (ap (λ (d : Played). positionOf (routineAt (d .state .game) q)) (turn-taken book r s going))
-                ∙ turn-turned book a r s l sound .sits .others q n .position in
+                ∙ turn-turned book a r s l sound .standings .others q n .position in
                 rw (ne-eqb q r n, other) (stand q m)
           ]
 

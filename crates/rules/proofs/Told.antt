@@ -20,7 +20,7 @@ use Rattle.round.proofs.Stepping.{ticks-in-time}
 use Rattle.round.proofs.Sound.{Sound}
 use Rattle.round.proofs.Fitting.{effect-sound}
 use Rattle.round.proofs.Coming.{goes-carries}
-use Rattle.rules.proofs.Walks.{Marks, Fine, Ends, halts, goes}
+use Rattle.rules.proofs.Walks.{Marks, HasRoom, Ends, halts, goes}
 
 -- marks in what happened, one thing after the other
 marks-append : (a b : List Happening) → marksIn (a ++ b) ≡ marksIn a ++ marksIn b
@@ -52,8 +52,8 @@ module _ (book : List ℕ) (a : Accepted book) (r : ℕ) where
   abbrev steps : List ℕ
   steps = routineSteps book r
 
-  sound-fine : {s : State} → Sound book s → s .tooMany ≡ false → Fine (routinesOf book) s
-  sound-fine {s} ok few = record { starting = fit-lists book (s .game) (ok .fits) .1; items = ok .sized .starting; few = few }
+  sound-room : {s : State} → Sound book s → s .tooMany ≡ false → HasRoom (routinesOf book) s
+  sound-room {s} ok few = record { starting = fit-lists book (s .game) (ok .fits) .1; items = ok .sized .starting; few = few }
 
   -- the steps end as t says, from these marks on, and are some number
   abbrev EndsAs : Ticks → Position → State → Marks → Type 0
@@ -73,6 +73,6 @@ module _ (book : List ℕ) (a : Accepted book) (r : ℕ) where
         here,
         λ ms.
             let (n, end) = on (ms ++ marksIn told) in
-            (suc n, goes (sound-fine ok here) same (rw (marks-then ms told (t .told)) at end)),
+            (suc n, goes (sound-room ok here) same (rw (marks-then ms told (t .told)) at end)),
       ))
-      (λ x s how y told same stays stops ok few. (few, λ ms. (1, rw (unmarked stops, append-nil) (halts (sound-fine ok few) same))))
+      (λ x s how y told same stays stops ok few. (few, λ ms. (1, rw (unmarked stops, append-nil) (halts (sound-room ok few) same))))

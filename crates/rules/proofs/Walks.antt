@@ -23,7 +23,7 @@ abbrev pub Marks : Type 0
 Marks = List (ℕ × ℤ)
 
 -- what is asked of a state to show the rules of its steps: a start finds room, and no number was too many
-pub record Fine (routines : ℕ) (s : State) : Type 0 where
+pub record HasRoom (routines : ℕ) (s : State) : Type 0 where
   pub starting : LineRight (s .game .starting) routines
   pub items : length (s .game .starting .items) ≡ mostEntries
   pub few : s .tooMany ≡ false
@@ -41,8 +41,8 @@ module _ (counts : Counts) (r : ℕ) (steps : List ℕ) where
   pub data Ends (h : Ending) (y : Position) (u : State) (us : Marks) : ℕ → Position → State → Marks → Type 0 where
     halts :
         {n : ℕ} {x : Position} {told : List Happening} →
-        Fine (counts .routines) u → tick counts r steps x u ≡ telling (Halts h y) told → Ends h y u us (suc n) x u us
+        HasRoom (counts .routines) u → tick counts r steps x u ≡ telling (Halts h y) told → Ends h y u us (suc n) x u us
     goes :
         {n q : ℕ} {x : Position} {s : State} {ms : Marks} {e : Effect} {told : List Happening} →
-        Fine (counts .routines) s → tick counts r steps x s ≡ telling (Goes q e) told →
+        HasRoom (counts .routines) s → tick counts r steps x s ≡ telling (Goes q e) told →
         Ends h y u us n (fresh q) (effectOn e s) (ms ++ marksIn told) → Ends h y u us (suc n) x s ms
