@@ -2,7 +2,7 @@
 -- routine, so it pays from what is left of the listed routines' signal steps and of the routines themselves; at the start that is at most
 -- 1,024 and 64.
 use Prim.Native.Nat.{ℕ, _+_, _<_, _≤_}
-use mathlib.Core.Path.{_≡_, refl}
+use mathlib.Core.Path.{refl}
 use mathlib.Core.Bool.{Bool}
 use mathlib.Core.List.{List, [], _∷_}
 use native.Mathlib.Omega.{arith}
@@ -14,10 +14,11 @@ use Rattle.game.specs.declared.Game.{Game}
 use Rattle.game.specs.Game.{Sized}
 use Rattle.fitting.specs.Fits.{Fits}
 use Rattle.fitting.proofs.Decides.{fit-lists}
+use Rattle.round.specs.declared.Position.{Position}
 use Rattle.round.specs.State.{State}
 use Rattle.round.specs.History.{countBelow, stepsIn, howMany}
 use Rattle.round.specs.Actions.{atStart}
-use Rattle.round.specs.Rounds.{again, mostPasses, listedIn, turn, pass}
+use Rattle.round.specs.Rounds.{mostPasses, listedIn, turn, pass}
 use Rattle.round.specs.Enough.{Enough}
 use Rattle.round.specs.Demand.{isSignalStep, givesSignal, endsRoutine}
 use Rattle.round.proofs.Along.{All}
@@ -28,30 +29,29 @@ use Rattle.round.proofs.Entries.{entries-length}
 use Rattle.round.proofs.Actions.{at-start-listed}
 use Rattle.round.proofs.Starting.{at-start-sound, listed-distinct}
 use Rattle.round.proofs.Lasting.{routine-in-time, left-most}
-use Rattle.round.proofs.Staying.{turn-sound, again-sound}
-use Rattle.round.proofs.Paying.{worth, turn-spares, leftOf, turn-pays, ends-pay}
-use Rattle.round.proofs.PayingPasses.{total, total-again, pass-pays}
+use Rattle.round.proofs.Paying.{worth, leftOf, turn-pays, ends-pay}
+use Rattle.round.proofs.PayingPasses.{total, pass-pays}
 use Rattle.round.proofs.Accounts.{turn-signals}
 use Rattle.round.proofs.BookSteps.{few-steps}
 use Rattle.round.proofs.Passes.{round-ends}
 use Rattle.round.proofs.Lawful.{turn-laws}
 
 -- a routine that takes turns may still end
-abbrev mayEnd : ℕ → State → ℕ
-mayEnd = worth (λ r x. 1)
+abbrev mayEnd : ℕ → Position → ℕ
+mayEnd r x = 1
 
 total-ends : (L : List ℕ) (s : State) → total mayEnd L s ≤ length L
 unfolding sumOver
 total-ends [] s = omega arith
 total-ends (r ∷ rs) s =
-    let one : mayEnd r s ≤ 1 = by-test (λ (n : ℕ). n ≤ 1) (isGoing s r) (λ h. omega arith) (λ h. omega arith) in
+    let one : worth mayEnd r s ≤ 1 = by-test (λ (n : ℕ). n ≤ 1) (isGoing s r) (λ h. omega arith) (λ h. omega arith) in
     omega (arith, total-ends rs s)
 
 module _ (book : List ℕ) (a : Accepted book) where
   -- some routines have no more left than they have
   pub total-left :
       (set : ℕ → ℕ → Bool) (L : List ℕ) → All (λ r. r < routinesOf book) L → (s : State) →
-      total (worth (leftOf book a set)) L s ≤ stepsIn book set L
+      total (leftOf book a set) L s ≤ stepsIn book set L
   unfolding sumOver stepsIn
   total-left set [] all s = omega arith
   total-left set (r ∷ rs) all s =
@@ -61,30 +61,23 @@ module _ (book : List ℕ) (a : Accepted book) where
       omega (arith, total-left set rs (all .1) s)
 
   -- what the signals and the ends of a round pay from
-  abbrev signals : ℕ → State → ℕ
-  signals = worth (leftOf book a (isSignalStep book))
+  abbrev signals : ℕ → Position → ℕ
+  signals = leftOf book a (isSignalStep book)
 
   abbrev budget : List ℕ → State → ℕ
   budget L s = total signals L s + total mayEnd L s
 
   turn-gives :
-      (r : ℕ) (s : State) → r < routinesOf book → Sound book s →
-      howMany givesSignal (turn book r s .told) + signals r (turn book r s .state) ≤ signals r s
-  turn-gives r s l ok = omega (arith, turn-signals book r s, turn-pays book a (isSignalStep book) r s l)
-
-  budget-again : (L : List ℕ) (s : State) → budget L (again s) ≡ budget L s
-  budget-again L s = omega (arith, total-again signals (λ q u. refl) L s, total-again mayEnd (λ q u. refl) L s)
+      (r : ℕ) (s : State) → r < routinesOf book →
+      howMany givesSignal (turn book r s .told) + worth signals r (turn book r s .state) ≤ worth signals r s
+  turn-gives r s l = omega (arith, turn-signals book r s, turn-pays book a (isSignalStep book) r s l)
 
   pass-spends :
       (L : List ℕ) → All (λ r. r < routinesOf book) L → (s : State) → Sound book s →
       moves (pass book L s .told) + budget L (pass book L s .state) ≤ budget L s
   pass-spends L all s ok =
-      let given =
-      pass-pays book (Sound book) givesSignal signals (turn-sound book a) again-sound turn-gives
-      (turn-spares book a (leftOf book a (isSignalStep book))) (λ q u. refl) L all s ok in
-      let over =
-      pass-pays book (Sound book) endsRoutine mayEnd (turn-sound book a) again-sound (λ r u l k. ends-pay book r u)
-      (turn-spares book a (λ q x. 1)) (λ q u. refl) L all s ok in
+      let given = pass-pays book a givesSignal signals turn-gives L all s ok in
+      let over = pass-pays book a endsRoutine mayEnd (λ r u l. ends-pay book r u) L all s ok in
       omega arith
 
   module _ (g : Game) (z : Sized g) (f : Fits book g) where
@@ -104,6 +97,6 @@ module _ (book : List ℕ) (a : Accepted book) where
           turns = routine-in-time book a;
           passes =
               round-ends (turn-laws book a) (listedIn g) all (budget (listedIn g)) (pass-spends (listedIn g) all)
-              (budget-again (listedIn g)) mostPasses (atStart g) (at-start-sound book g a z f) refl refl
+              (λ s. refl) mostPasses (atStart g) (at-start-sound book g a z f) refl refl
               (omega (arith, few, total-left set (listedIn g) all (atStart g), total-ends (listedIn g) (atStart g), few-listed));
         }

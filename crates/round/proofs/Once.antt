@@ -1,7 +1,6 @@
 -- No step is completed twice in one round by one routine: a listed routine pays for each step of a set that it completes with one of those
 -- that it has left, and at the round's start it has no more left than it has. Signals, numbers and marks are told by steps of their own.
 use Prim.Native.Nat.{ℕ, _≤_}
-use mathlib.Core.Path.{refl}
 use mathlib.Core.Bool.{Bool}
 use mathlib.Core.List.{List}
 use native.Mathlib.Omega.{arith}
@@ -13,17 +12,15 @@ use Rattle.game.specs.Game.{Sized}
 use Rattle.fitting.specs.Fits.{Fits}
 use Rattle.round.specs.History.{stepsIn, howMany}
 use Rattle.round.specs.Actions.{atStart}
-use Rattle.round.specs.Rounds.{mostPasses, listedIn, round, historyOf}
+use Rattle.round.specs.Rounds.{listedIn, historyOf}
 use Rattle.round.specs.Answers.{opMark, marksIn}
 use Rattle.round.specs.Demand.{isSignalStep, givesSignal}
 use Rattle.round.specs.Completed.{completes, theStep, isMarkStep, isAddition, CompletedOnce}
 use Rattle.round.proofs.Along.{Distinct}
-use Rattle.round.proofs.Sound.{Sound}
 use Rattle.round.proofs.Actions.{at-start-listed}
-use Rattle.round.proofs.Starting.{at-start-sound, listed-distinct}
-use Rattle.round.proofs.Staying.{turn-sound, again-sound}
-use Rattle.round.proofs.Paying.{worth, leftOf, turn-pays, turn-spares}
-use Rattle.round.proofs.PayingPasses.{instant-pays}
+use Rattle.round.proofs.Starting.{listed-distinct}
+use Rattle.round.proofs.Paying.{leftOf, turn-pays}
+use Rattle.round.proofs.PayingPasses.{round-pays}
 use Rattle.round.proofs.Accounts.{numbers-few, signals-completed, marks-completed}
 use Rattle.round.proofs.BookSteps.{steps-in-book, few-steps}
 use Rattle.round.proofs.OneStep.{one-of-distinct}
@@ -34,13 +31,9 @@ module _ (book : List ℕ) (a : Accepted book) (g : Game) (z : Sized g) (f : Fit
   distinct = listed-distinct book g a z f
 
   each-once : (set : ℕ → ℕ → Bool) → howMany (completes set) (historyOf book g) ≤ stepsIn book set (listedIn g)
-  unfolding round
   each-once set =
       let below = at-start-listed book g (a .laid .counts) z f in
-      let paid =
-      instant-pays book (Sound book) (completes set) (worth (leftOf book a set)) (turn-sound book a) again-sound
-      (λ r s l ok. turn-pays book a set r s l) (turn-spares book a (leftOf book a set)) (λ q s. refl) mostPasses (listedIn g) below
-      (atStart g) (at-start-sound book g a z f) in
+      let paid = round-pays book a (completes set) (leftOf book a set) (turn-pays book a set) g z f in
       omega (arith, total-left book a set (listedIn g) below (atStart g))
 
   signals-once : howMany givesSignal (historyOf book g) ≤ stepsIn book (isSignalStep book) (listedIn g)

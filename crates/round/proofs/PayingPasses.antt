@@ -1,58 +1,58 @@
--- Where each turn tells of no more things than its routine's worth falls by, and leaves the worth of the others, the passes of a round
--- tell of no more than the worth of all: for any test of what is told and any worth. By the claim that the things told and the worth left
--- to all the listed routines are together at most the worth that they had.
+-- Where each turn pays for what it tells of from what its routine has left, the passes of a round tell of no more than all have left: for
+-- any test of what is told and whatever is left, since a turn leaves every other routine what it has. By the claim that the things told and
+-- what is left to all the listed routines are together at most what was left to them.
 use Prim.Native.Nat.{ℕ, _+_, _<_, _≤_}
-use mathlib.Core.Path.{_≡_}
 use mathlib.Core.Bool.{Bool}
 use mathlib.Core.List.{List, [], _∷_, _++_}
-use mathlib.Core.Logic.{_≢_, inl, inr}
+use mathlib.Core.Logic.{inl, inr}
 use native.Mathlib.Decide.{ℕ-discrete}
 use native.Mathlib.Omega.{arith}
 use Rattle.layout.specs.Layout.{routinesOf}
+use Rattle.book.specs.Accepted.{Accepted}
+use Rattle.game.specs.declared.Game.{Game}
+use Rattle.game.specs.Game.{Sized}
+use Rattle.fitting.specs.Fits.{Fits}
+use Rattle.round.specs.declared.Position.{Position}
 use Rattle.round.specs.State.{State, Happening}
 use Rattle.round.specs.History.{howMany, Among}
-use Rattle.round.specs.Rounds.{again, turn, pass, instant}
+use Rattle.round.specs.Actions.{atStart}
+use Rattle.round.specs.Rounds.{listedIn, turn, pass, round, historyOf}
 use Rattle.round.proofs.Counting.{sumOver, over-le}
 use Rattle.round.proofs.Histories.{many-append}
-use Rattle.round.proofs.Along.{All, all-among, pass-along, instant-along}
+use Rattle.round.proofs.Along.{All, all-among, pass-along}
+use Rattle.round.proofs.Sound.{Sound}
+use Rattle.round.proofs.Staying.{turn-sound}
+use Rattle.round.proofs.After.{round-along}
+use Rattle.round.proofs.Paying.{worth, turn-spares}
 
--- what some routines are worth together
-abbrev pub total : (ℕ → State → ℕ) → List ℕ → State → ℕ
-total worth L s = sumOver (λ r. worth r s) L
-
--- the flags for another pass are worth nothing
-pub total-again :
-    (worth : ℕ → State → ℕ) → ((q : ℕ) (s : State) → worth q (again s) ≡ worth q s) → (L : List ℕ) (s : State) →
-    total worth L (again s) ≡ total worth L s
-total-again worth agains L s i = sumOver (λ r. agains r s i) L
+-- what some routines have left together
+abbrev pub total : (ℕ → Position → ℕ) → List ℕ → State → ℕ
+total left L s = sumOver (λ r. worth left r s) L
 
 module _
-    (book : List ℕ) (Ok : State → Type 0) (test : Happening → Bool) (worth : ℕ → State → ℕ)
-    (stays : (r : ℕ) (s : State) → r < routinesOf book → Ok s → Ok (turn book r s .state))
-    (again-stays : (s : State) → Ok s → Ok (again s))
+    (book : List ℕ) (a : Accepted book) (test : Happening → Bool) (left : ℕ → Position → ℕ)
     (pays :
-    (r : ℕ) (s : State) → r < routinesOf book → Ok s → howMany test (turn book r s .told) + worth r (turn book r s .state) ≤ worth r s)
-    (spares : (r q : ℕ) (s : State) → r < routinesOf book → Ok s → q ≢ r → worth q (turn book r s .state) ≡ worth q s)
-    (agains : (q : ℕ) (s : State) → worth q (again s) ≡ worth q s)
+    (r : ℕ) (s : State) → r < routinesOf book →
+    howMany test (turn book r s .told) + worth left r (turn book r s .state) ≤ worth left r s)
   where
-    -- a turn of routine r: no routine is worth more behind it, and r pays if it is one of L
-    module _ (r : ℕ) (s : State) (l : r < routinesOf book) (ok : Ok s) where
-      no-more : (q : ℕ) → worth q (turn book r s .state) ≤ worth q s
+    -- a turn of routine r: no routine has more left behind it, and r pays if it is one of L
+    module _ (r : ℕ) (s : State) (l : r < routinesOf book) (ok : Sound book s) where
+      no-more : (q : ℕ) → worth left q (turn book r s .state) ≤ worth left q s
       no-more q =
           elim (ℕ-discrete q r) [
-            | yes e ↦ rw e (omega (arith, pays r s l ok))
-            | no n ↦ omega (arith, spares r q s l ok n)
+            | yes e ↦ rw e (omega (arith, pays r s l))
+            | no n ↦ omega (arith, turn-spares book a left r q s l ok n)
           ]
 
       total-pays :
-          (L : List ℕ) → Among r L → howMany test (turn book r s .told) + total worth L (turn book r s .state) ≤ total worth L s
+          (L : List ℕ) → Among r L → howMany test (turn book r s .told) + total left L (turn book r s .state) ≤ total left L s
       unfolding sumOver
-      total-pays (q ∷ qs) (inl e) = rw (← e) (omega (arith, pays r s l ok, over-le _ _ no-more qs))
+      total-pays (q ∷ qs) (inl e) = rw (← e) (omega (arith, pays r s l, over-le _ _ no-more qs))
       total-pays (q ∷ qs) (inr h) = omega (arith, no-more q, total-pays qs h)
 
     module _ (L : List ℕ) where
       abbrev Claim : State → List Happening → State → Type 0
-      Claim s told u = howMany test told + total worth L u ≤ total worth L s
+      Claim s told u = howMany test told + total left L u ≤ total left L s
 
       abbrev Listed : ℕ → Type 0
       Listed r = (r < routinesOf book) × Among r L
@@ -61,26 +61,23 @@ module _
       unfolding howMany
       claim-none s = omega arith
 
-      claim-both : (s u v : State) (a b : List Happening) → Claim s a u → Claim u b v → Claim s (a ++ b) v
-      claim-both s u v a b first second = omega (arith, many-append test a b)
+      claim-both : (s u v : State) (b c : List Happening) → Claim s b u → Claim u c v → Claim s (b ++ c) v
+      claim-both s u v b c first second = omega (arith, many-append test b c)
 
-      claim-turn : (r : ℕ) (s : State) → Listed r → Ok s → Claim s (turn book r s .told) (turn book r s .state)
+      claim-turn : (r : ℕ) (s : State) → Listed r → Sound book s → Claim s (turn book r s .told) (turn book r s .state)
       claim-turn r s l ok = total-pays r s (l .0) ok L (l .1)
 
-      claim-again : (s : State) → Claim s [] (again s)
-      unfolding howMany
-      claim-again s = omega (arith, total-again worth agains L s)
-
     pub pass-pays :
-        (L : List ℕ) → All (λ r. r < routinesOf book) L → (s : State) → Ok s →
-        howMany test (pass book L s .told) + total worth L (pass book L s .state) ≤ total worth L s
+        (L : List ℕ) → All (λ r. r < routinesOf book) L → (s : State) → Sound book s →
+        howMany test (pass book L s .told) + total left L (pass book L s .state) ≤ total left L s
     pass-pays L all s ok =
-        pass-along (Claim L) (claim-none L) (claim-both L) book Ok (Listed L) (λ r s l. stays r s (l .0)) (claim-turn L) L
-        (all-among (λ r. r < routinesOf book) L all) s ok .1
+        pass-along (Claim L) (claim-none L) (claim-both L) book (Sound book) (Listed L) (λ r s l. turn-sound book a r s (l .0))
+        (claim-turn L) L (all-among (λ r. r < routinesOf book) L all) s ok .1
 
-    pub instant-pays :
-        (n : ℕ) (L : List ℕ) → All (λ r. r < routinesOf book) L → (s : State) → Ok s →
-        howMany test (instant book n L s .played .told) + total worth L (instant book n L s .played .state) ≤ total worth L s
-    instant-pays n L all s ok =
-        instant-along (Claim L) (claim-none L) (claim-both L) book Ok (Listed L) (λ r s l. stays r s (l .0)) (claim-turn L) again-stays
-        (claim-again L) n L (all-among (λ r. r < routinesOf book) L all) s ok .1
+    -- the flags for another pass leave everybody what it has
+    pub round-pays :
+        (g : Game) → Sized g → Fits book g →
+        howMany test (historyOf book g) + total left (listedIn g) (round book g .played .state) ≤ total left (listedIn g) (atStart g)
+    round-pays g z f =
+        let L = listedIn g in
+        round-along book a g z f (Claim L) (claim-none L) (claim-both L) (claim-turn L) (claim-none L)
