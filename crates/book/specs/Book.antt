@@ -2,8 +2,8 @@
 use Prim.Native.Nat.{ℕ, _+_, _*_}
 use mathlib.Core.Bool.{Bool, _&&_}
 use mathlib.Core.List.{List, []}
-use lib.Dec.{eqb, ltb}
-use lib.ListN.{drop, take}
+use lib.Dec.{eqb, leb, ltb}
+use lib.ListN.{length, drop, take}
 use Rattle.numbers.specs.Choice.{if_then_else_}
 use Rattle.layout.specs.declared.Verdict.{Verdict}
 use Rattle.kinds.specs.declared.Step.{Step}
@@ -35,6 +35,10 @@ routinePart s r = drop (routineFrom s r) s
 -- the steps of routine r
 abbrev pub routineSteps : List ℕ → ℕ → List ℕ
 routineSteps s r = take (stepBytes * stepCount s r) (routinePart s r)
+
+-- the byte of the book where they begin; 0 for a routine that begins past the book's end, of which no step is there
+unfoldable pub routineStepsFrom : List ℕ → ℕ → ℕ
+routineStepsFrom s r = if leb (routineFrom s r) (length s) then routineFrom s r else 0
 
 -- what stands at a place of routine r
 abbrev pub viewOf : List ℕ → ℕ → ℕ → View

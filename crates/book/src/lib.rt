@@ -7,8 +7,7 @@ use layout::Verdict;
 ghost use mathlib.Core.Path.{_≡_};
 ghost use Prim.Native.Nat.{_+_};
 ghost use Rattle.layout.specs.Verdicts.{refused, verdictOf, _orElse_};
-ghost use Rattle.book.specs.Book.{bookVerdict, routineSteps, shown, shownFrom};
-ghost use Rattle.layout.specs.Layout.{routineStepsFrom};
+ghost use Rattle.book.specs.Book.{bookVerdict, routineSteps, routineStepsFrom, shown, shownFrom};
 
 // The numbers of the refusals that reading blocks tells before any other.
 const WRONG_STEP: u32 = 5;

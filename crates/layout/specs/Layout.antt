@@ -8,7 +8,6 @@ use Rattle.numbers.specs.Numbers.{halfAt}
 use Rattle.kinds.specs.Steps.{stepBytes}
 use Rattle.layout.specs.declared.Verdict.{Verdict}
 use Rattle.layout.specs.Verdicts.{refused, _orElse_, unless, firstRefusal}
-use Rattle.numbers.specs.Choice.{if_then_else_}
 use Rattle.kinds.specs.declared.Counts.{Counts}
 
 -- "Header of 12 bytes: routines R (1 to 64), steps S (0 to 1,024), signals E (0 to 64), counters C (0 to 64)"
@@ -94,7 +93,3 @@ countsOf s = record { routines = routinesOf s; signals = signalsOf s; counters =
 -- the byte of the book where the steps of routine r begin
 abbrev pub routineFrom : List ℕ → ℕ → ℕ
 routineFrom s r = stepsFrom s + stepBytes * firstStep s r
-
--- the byte of the book where that part begins; 0 for a routine that begins past the book's end, of which no step is there
-unfoldable pub routineStepsFrom : List ℕ → ℕ → ℕ
-routineStepsFrom s r = if leb (routineFrom s r) (length s) then routineFrom s r else 0

@@ -9,10 +9,10 @@ use lib.Seq.{take-all, take-nil}
 use borrow.Author.Needs.{needs}
 use borrow.Author.Tests.{lt-leb}
 use Rattle.kinds.specs.Steps.{stepBytes}
-use Rattle.layout.specs.Layout.{stepCount, routineFrom, routineStepsFrom}
-use Rattle.book.specs.Book.{routinePart, routineSteps}
+use Rattle.layout.specs.Layout.{stepCount, routineFrom}
+use Rattle.book.specs.Book.{routinePart, routineSteps, routineStepsFrom}
 use Rattle.numbers.proofs.Parts.{rest-from}
-use Rattle.layout.proofs.Directory.{begins-there}
+use Rattle.book.proofs.Parts.{begins-there}
 use Rattle.book.proofs.routine_steps.Statement.{statement}
 use Rattle.book.proofs.routine_steps.Tie as tie
 
