@@ -1,12 +1,13 @@
 -- What the lowest while told of a parse says: those below it pause and it doesn't, no other place is such, and n is told if all pause.
 -- What holds of each while holds of one that doesn't pause: so neither of two such places can lie below the other.
 use Prim.Native.Nat.{ℕ, suc, _≤_, _<_, min, max}
-use mathlib.Core.Path.{_≡_, refl, sym}
-use mathlib.Core.Bool.{Bool, true, false, true≢false}
+use mathlib.Core.Path.{_≡_, refl}
+use mathlib.Core.Bool.{Bool, true, false}
 use mathlib.Core.Logic.{_⊎_, inl, inr}
 use native.Mathlib.Decide.{decLe, decLt}
 use native.Mathlib.Omega.{arith}
 use Rattle.numbers.specs.Choice.{if_then_else_}
+use Rattle.numbers.proofs.Tests.{clash}
 use Rattle.blocks.specs.Blocks.{View}
 use Rattle.blocks.specs.Parse.{ParsedBlock, ParsedStep, empty, more, plain, pausing, ifOnly, ifElse, loop, blockPauses}
 use Rattle.blocks.specs.Parse.{EachWhile, EachWhileOf, SomeWhile, SomeWhileOf, WhilesPause}
@@ -102,7 +103,7 @@ module _ (at : ℕ → View) where
 
       pub pausing-lowest : WhilesPause at b → n ≤ lowest at n b
       pausing-lowest w = elim (decLt (lowest at n b) n) [
-        | yes l ↦ absurd (true≢false (sym (each-some (λ p u. u ≡ true) (lowest at n b) b w (some-while (lowest at n b) l b refl))))
+        | yes l ↦ clash (each-some (λ p u. u ≡ true) (lowest at n b) b w (some-while (lowest at n b) l b refl)) refl
         | no l ↦ omega arith
       ]
 
@@ -115,7 +116,7 @@ module _ (at : ℕ → View) where
           each-some (λ p u. p < n) x b within (v .1)
 
       not-below : (x y : ℕ) → EachWhile at (PausesBelow x) b → SomeWhile at (EndlessAt y) b → y < x → ⊥
-      not-below x y w v l = true≢false (sym (each-some (PausesBelow x) y b w v l))
+      not-below x y w v l = clash (each-some (PausesBelow x) y b w v l) refl
 
       pub lowest-is : (x : ℕ) → LowestAt b x → lowest at n b ≡ x
       lowest-is x v =

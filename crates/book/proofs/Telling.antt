@@ -1,14 +1,15 @@
 -- What reading a book answers is told for the reason that document 01 gives, nothing else is, and so exactly the accepted books pass.
 -- A reason settles each check up to its own; the other way, the first check that refuses has its reason.
 use Prim.Native.Nat.{ℕ, suc, _<_}
-use mathlib.Core.Path.{_≡_, refl, sym, _∙_, ap}
-use mathlib.Core.Bool.{Bool, true, false, true≢false}
+use mathlib.Core.Path.{_≡_, refl, _∙_, ap}
+use mathlib.Core.Bool.{Bool, true, false}
 use mathlib.Core.List.{List}
 use mathlib.Core.Logic.{_↔_}
 use native.Mathlib.Decide.{ℕ-discrete}
 use lib.Dec.{leb, eqb}
 use lib.ListN.{length}
 use borrow.Author.Tests.{leb-true, leb-false, eqb-false}
+use Rattle.numbers.proofs.Tests.{clash}
 use Rattle.layout.specs.declared.Verdict.{Verdict}
 use Rattle.layout.specs.Verdicts.{accepted, refused, _orElse_, unless}
 use Rattle.layout.specs.Layout.{headerBytes, countsFit, layoutFits, layoutVerdict, routinesOf, stepsOf, stepsBefore, directoryVerdict}
@@ -93,9 +94,9 @@ module _ (s : List ℕ) where
   layout-tells =
       test-tells (leb headerBytes (length s)) _ (λ e. Tells.short (leb-false _ _ e)) (λ e.
       let header = leb-true _ _ e in
-      test-tells (countsFit s) _ (λ e. Tells.counts header (λ c. true≢false (sym (counts-fit s c) ∙ e))) (λ e.
+      test-tells (countsFit s) _ (λ e. Tells.counts header (λ c. clash (counts-fit s c) e)) (λ e.
       let inRange = counts-in-range s e in
-      unless-tells (layoutFits s) (λ e. Tells.offsets header inRange (λ o. true≢false (sym (layout-fits s o) ∙ e)))))
+      unless-tells (layoutFits s) (λ e. Tells.offsets header inRange (λ o. clash (layout-fits s o) e))))
 
   module _ (laid : LaidOut s) where
     directory-tells : ToldIf (directoryVerdict s)

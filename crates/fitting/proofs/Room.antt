@@ -2,14 +2,14 @@
 -- By counting: different numbers below a bound are no more than the bound.
 use Prim.Native.Nat.{ℕ, zero, suc, _+_, _<_, _≤_}
 use mathlib.Core.Path.{_≡_, sym, _∙_}
-use mathlib.Core.Bool.{true, and-false, Bool-discrete}
+use mathlib.Core.Bool.{and-false}
 use mathlib.Core.List.{List}
 use native.Mathlib.Omega.{arith}
 use borrow.Author.Tests.{eqb-true, eqb-false, eq-eqb, lt-ltb}
 use lib.Dec.{eqb}
 use lib.Seq.{getD-set-same}
 use Rattle.numbers.specs.Choice.{if_then_else_}
-use Rattle.numbers.proofs.Tests.{not-true-false, by-test}
+use Rattle.numbers.proofs.Tests.{clash, by-test, by-flag}
 use Rattle.layout.specs.Layout.{routinesOf}
 use Rattle.book.specs.Accepted.{CountsInRange}
 use Rattle.game.specs.declared.Line.{Line}
@@ -74,11 +74,7 @@ start-joins s g n range z f h stage =
     let l = g .starting in
     let t = fit-lists s g f .1 in
     let known = is-in l (t .short) n in
-    elim (Bool-discrete (isIn l n) true) [
-      | yes e ↦ rw (e, and-false) (known .0 e)
-      | no m ↦
-          let new = not-true-false (isIn l n) m in
-          let space : l .len < mostEntries = omega (arith, room l n t h (λ v. m (known .1 v)), range .fewRoutines) in
-          rw (eq-eqb _ _ stage, new, lt-ltb (l .len) mostEntries space)
-          (l .len, omega arith, getD-set-same (l .items) (l .len) n 0 (omega (arith, z .starting)))
-    ]
+    by-flag (isIn l n) (λ old. rw (old, and-false) (known .0 old)) (λ new.
+    let space : l .len < mostEntries = omega (arith, room l n t h (λ v. clash (known .1 v) new), range .fewRoutines) in
+    rw (eq-eqb _ _ stage, new, lt-ltb (l .len) mostEntries space)
+    (l .len, omega arith, getD-set-same (l .items) (l .len) n 0 (omega (arith, z .starting))))

@@ -1,11 +1,12 @@
 -- A routine passes its test exactly where its stage, its place and its count left are those that document 01 allows.
 -- By cases on the stage; only a timed step has a count that something may be left of.
 use Prim.Native.Nat.{ℕ, zero, suc, _≤_}
-use mathlib.Core.Path.{_≡_, refl, sym}
-use mathlib.Core.Bool.{Bool, true, false, _||_, not, true≢false}
+use mathlib.Core.Path.{_≡_, refl}
+use mathlib.Core.Bool.{Bool, true, false, _||_, not}
 use mathlib.Core.List.{List}
 use mathlib.Core.Logic.{_↔_, _⊎_, inl, inr, ⊎-elim, Iff·rfl, Iff·trans}
 use native.Mathlib.Omega.{arith}
+use Rattle.numbers.proofs.Tests.{clash}
 use Rattle.kinds.specs.Steps.{stepAt}
 use Rattle.kinds.specs.Timed.{timedCount}
 use Rattle.kinds.proofs.Timed.{LeftOf, timed}
@@ -63,7 +64,7 @@ module _ {L : Type 0} (listed : Bool) (l : (listed ≡ true) ↔ L) where
   stage-right (suc (suc zero)) = under-way rested (omega arith) (inr refl)
   stage-right (suc (suc (suc zero))) = (λ _. ended-right, λ _. refl)
   stage-right (suc (suc (suc (suc zero)))) = not-under-way stopped (omega arith) (inr refl)
-  stage-right (suc (suc (suc (suc (suc k))))) = (λ h. absurd (true≢false (sym h)), λ v. absurd (omega (arith, v .0)))
+  stage-right (suc (suc (suc (suc (suc k))))) = (λ h. clash h refl, λ v. absurd (omega (arith, v .0)))
 
 module _ (s : List ℕ) (r : ℕ) (x : Routine) where
   pub routine-right :
@@ -93,10 +94,10 @@ module _ (s : List ℕ) (r : ℕ) (x : Routine) where
 -- no flag is set
 all-off :
     (a b c d e : Bool) → (a || b || c || d || e) ≡ false → (a ≡ false) × (b ≡ false) × (c ≡ false) × (d ≡ false) × (e ≡ false)
-all-off true b c d e h = absurd (true≢false h)
-all-off false true c d e h = absurd (true≢false h)
-all-off false false true d e h = absurd (true≢false h)
-all-off false false false true e h = absurd (true≢false h)
+all-off true b c d e h = clash refl h
+all-off false true c d e h = clash refl h
+all-off false false true d e h = clash refl h
+all-off false false false true e h = clash refl h
 all-off false false false false e h = (refl, refl, refl, refl, h)
 
 pub is-blank : (x : Routine) → (isBlank x ≡ true) ↔ (x ≡ blank)

@@ -1,13 +1,13 @@
 -- What a test says where it passes, as an equivalence: tests of numbers, joined tests, a choice by a test,
 -- and a test at each, or at one, of the first n numbers. By the two directions of each.
 use Prim.Native.Nat.{ℕ, _<_, _≤_}
-use mathlib.Core.Path.{_≡_, refl, sym, _∙_}
-use mathlib.Core.Bool.{Bool, true, false, _&&_, _||_, not, true≢false}
+use mathlib.Core.Path.{_≡_, refl}
+use mathlib.Core.Bool.{Bool, true, false, _&&_, _||_, not}
 use mathlib.Core.Logic.{_↔_, Iff·trans}
 use lib.Dec.{ltb, leb, eqb}
 use borrow.Author.Tests.{ltb-true, ltb-false, lt-ltb, le-ltb, leb-true, le-leb, eqb-true, eq-eqb, not-true}
 use Rattle.numbers.specs.Choice.{if_then_else_}
-use Rattle.numbers.proofs.Tests.{and-both, both-true, not-true-false}
+use Rattle.numbers.proofs.Tests.{clash, and-both, both-true, not-true-false}
 use Rattle.game.specs.Below.{allBelow, anyBelow}
 use Rattle.game.proofs.Below.{all-holds, all-true, any-holds, any-found}
 
@@ -27,7 +27,7 @@ pub fails : (t : Bool) → (not t ≡ true) ↔ (t ≡ false)
 fails t = (not-true t, λ e. rw e)
 
 pub refuted : {P : Type 0} {t : Bool} → (t ≡ true) ↔ P → (t ≡ false) ↔ (P → ⊥)
-refuted {t = t} p = (λ e k. true≢false (sym (p .1 k) ∙ e), λ n. not-true-false t (λ e. n (p .0 e)))
+refuted {t = t} p = (λ e k. clash (p .1 k) e, λ n. not-true-false t (λ e. n (p .0 e)))
 
 pub denied : {P : Type 0} (t : Bool) → (t ≡ true) ↔ P → (not t ≡ true) ↔ (P → ⊥)
 denied t p = Iff·trans (fails t) (refuted p)
@@ -44,7 +44,7 @@ both p q = and-then p (λ _. q)
 
 -- one of two tests: the second where the first fails
 pub or-else : {B Q : Type 0} {y : Bool} (t : Bool) → (t ≡ false) ↔ B → (y ≡ true) ↔ Q → ((t || y) ≡ true) ↔ (B → Q)
-or-else true b q = (λ h k. absurd (true≢false (b .1 k)), λ h. refl)
+or-else true b q = (λ h k. clash refl (b .1 k), λ h. refl)
 or-else false b q = (λ h _. q .0 h, λ h. q .1 (h (b .0 refl)))
 
 -- a choice by a test t, which says A where it passes and B where it fails
@@ -52,8 +52,8 @@ pub choice :
     {A B P Q : Type 0} {x y : Bool} (t : Bool) →
     (t ≡ true) ↔ A → (t ≡ false) ↔ B → (x ≡ true) ↔ P → (y ≡ true) ↔ Q →
     ((if t then x else y) ≡ true) ↔ ((A → P) × (B → Q))
-choice true a b p q = (λ h. (λ _. p .0 h, λ k. absurd (true≢false (b .1 k))), λ h. p .1 (h .0 (a .0 refl)))
-choice false a b p q = (λ h. (λ k. absurd (true≢false (sym (a .1 k))), λ _. q .0 h), λ h. q .1 (h .1 (b .0 refl)))
+choice true a b p q = (λ h. (λ _. p .0 h, λ k. clash refl (b .1 k)), λ h. p .1 (h .0 (a .0 refl)))
+choice false a b p q = (λ h. (λ k. clash (a .1 k) refl, λ _. q .0 h), λ h. q .1 (h .1 (b .0 refl)))
 
 pub by-order :
     {P Q : Type 0} {x y : Bool} (a b : ℕ) → (x ≡ true) ↔ P → (y ≡ true) ↔ Q →

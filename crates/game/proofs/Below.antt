@@ -1,12 +1,12 @@
 -- A test at each, or at one, of the first n numbers, with one turn of a loop over them.
 -- By induction on n: the last of the first n + 1 numbers is n itself.
 use Prim.Native.Nat.{ℕ, zero, suc, _+_, _<_, _≤_}
-use mathlib.Core.Path.{_≡_, refl, sym}
-use mathlib.Core.Bool.{Bool, true, false, true≢false, Bool-discrete, and-false, or-true, or-false}
+use mathlib.Core.Path.{_≡_, refl}
+use mathlib.Core.Bool.{Bool, true, false, and-false, or-true, or-false}
 use native.Mathlib.Omega.{arith}
 use native.Mathlib.Decide.{ℕ-discrete}
 use native.Mathlib.Numerals.{add-one}
-use Rattle.numbers.proofs.Tests.{and-both, both-true, not-true-false}
+use Rattle.numbers.proofs.Tests.{clash, and-both, both-true, by-flag}
 use Rattle.game.specs.Below.{allBelow, anyBelow}
 
 module _ (test : ℕ → Bool) where
@@ -52,12 +52,8 @@ module _ (test : ℕ → Bool) where
 
   pub any-found : (n : ℕ) → anyBelow n test ≡ true → (i : ℕ) × (i < n) × (test i ≡ true)
   unfolding anyBelow
-  any-found zero h = absurd (true≢false (sym h))
+  any-found zero h = clash h refl
   any-found (suc n) h =
-      elim (Bool-discrete (test n) true) [
-        | yes e ↦ (n, omega arith, e)
-        | no ne ↦
-            let none : test n ≡ false = not-true-false (test n) ne in
-            let before = any-found n (rw (none, or-false) at h) in
-            (before .0, omega arith, before .2)
-      ]
+      by-flag (test n) (λ e. (n, omega arith, e)) (λ e.
+      let before = any-found n (rw (e, or-false) at h) in
+      (before .0, omega arith, before .2))

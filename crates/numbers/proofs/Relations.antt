@@ -1,9 +1,9 @@
 -- The relation test answers 1 exactly where the relation holds, for any relation's number: 2 and above are "greater".
 -- Each of the three tests is read as the order that it tests; two numbers are equal where each is at most the other.
 use Prim.Native.Nat.{ℕ, zero, suc}
-use mathlib.Core.Path.{_≡_, refl, sym, ap, _∙_}
+use mathlib.Core.Path.{_≡_, refl, ap}
 use mathlib.Core.Logic.{_↔_, Iff·trans}
-use mathlib.Core.Bool.{Bool, true, false, _&&_, true≢false}
+use mathlib.Core.Bool.{Bool, true, false, _&&_}
 use native.Mathlib.Nat.{le-antisymm}
 use native.Mathlib.Omega.{arith}
 use borrow.Author.Tests.{ne-eqb}
@@ -14,6 +14,7 @@ use mir.Facts.{and-yes, yes-and}
 use Rattle.numbers.specs.Choice.{if_then_else_}
 use Rattle.numbers.specs.Numbers.{relationOf}
 use Rattle.numbers.specs.Relations.{Holds}
+use Rattle.numbers.proofs.Tests.{clash}
 
 -- a test that answers 1 where it passes, and 0
 answers : (b : Bool) → (eqb (if b then 1 else 0) 1 ≡ true) ↔ T b
@@ -42,4 +43,4 @@ relation-holds (suc (suc k)) v n =
     rw (ne-eqb (suc (suc k)) 0 (λ e. omega arith), ne-eqb (suc (suc k)) 1 (λ e. omega arith)) (Iff·trans (answers (ltZ n v)) (less n v))
 
 pub relation-fails : (relation : ℕ) (v n : ℤ) → eqb (relationOf relation v n) 1 ≡ false → Holds relation v n → ⊥
-relation-fails relation v n e h = true≢false (sym (relation-holds relation v n .1 h) ∙ e)
+relation-fails relation v n e h = clash (relation-holds relation v n .1 h) e

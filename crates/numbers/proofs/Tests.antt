@@ -1,18 +1,28 @@
--- Laws of tests, by a test's two values: two tests joined by && or ||, a test that is not true, a choice by a test.
-use mathlib.Core.Path.{_≡_, refl, sym}
+-- Laws of tests: two tests joined by && or ||, a test that is not true or has both values, a choice by a test and a claim by one.
+-- By a test's two values: at each of them what is claimed computes, or one of the hypotheses says that true is false.
+use mathlib.Core.Path.{_≡_, refl, sym, _∙_}
 use mathlib.Core.Bool.{Bool, true, false, _&&_, _||_, true≢false}
+use mathlib.Core.Logic.{_⊎_, inl, inr}
 use Rattle.numbers.specs.Choice.{if_then_else_}
+
+-- no test has both values
+pub clash : {P : Type 0} {t : Bool} → t ≡ true → t ≡ false → P
+clash h k = absurd (true≢false (sym h ∙ k))
 
 pub and-both : (a b : Bool) → (a && b) ≡ true → (a ≡ true) × (b ≡ true)
 and-both true b h = (refl, h)
-and-both false b h = absurd (true≢false (sym h))
+and-both false b h = clash h refl
 
 pub both-true : {a b : Bool} → a ≡ true → b ≡ true → (a && b) ≡ true
 both-true h k = rw (h, k)
 
 pub neither : (a b : Bool) → (a || b) ≡ false → (a ≡ false) × (b ≡ false)
-neither true b h = absurd (true≢false h)
+neither true b h = clash refl h
 neither false b h = (refl, h)
+
+pub first-or-second : (a b : Bool) → (a || b) ≡ true → (a ≡ true) ⊎ ((a ≡ false) × (b ≡ true))
+first-or-second true b h = inl refl
+first-or-second false b h = inr (refl, h)
 
 pub not-true-false : (b : Bool) → (b ≡ true → ⊥) → b ≡ false
 not-true-false true n = absurd (n refl)
@@ -22,3 +32,8 @@ not-true-false false n = refl
 pub by-test : {A : Type 0} (P : A → Type 0) (t : Bool) {x y : A} → (t ≡ true → P x) → (t ≡ false → P y) → P (if t then x else y)
 by-test P true p q = p refl
 by-test P false p q = q refl
+
+-- a claim that follows from either value holds
+pub by-flag : {P : Type 0} (t : Bool) → (t ≡ true → P) → (t ≡ false → P) → P
+by-flag true p q = p refl
+by-flag false p q = q refl

@@ -1,14 +1,15 @@
 -- A game that is set up fits its book, and its arrays are as long as their types say.
 -- Every routine, counter, signal and entry of a list is 0 in it, so each clause can be read off.
 use Prim.Native.Nat.{ℕ, zero, suc}
-use mathlib.Core.Path.{_≡_, refl, sym, _∙_, ap}
-use mathlib.Core.Bool.{false, true≢false}
+use mathlib.Core.Path.{_≡_, refl, ap}
+use mathlib.Core.Bool.{false}
 use mathlib.Core.List.{List}
 use mathlib.Core.Logic.{⊎-elim}
 use native.Mathlib.Omega.{arith}
 use lib.ListN.{getD, replicate, length-replicate}
 use lib.IntN.{pos}
 use lib.Signed.{leZ-yes}
+use Rattle.numbers.proofs.Tests.{clash}
 use Rattle.kinds.specs.declared.Counts.{Counts}
 use Rattle.layout.specs.Layout.{mostRoutines, mostSignals, mostCounters, countsOf}
 use Rattle.book.specs.Book.{bookVerdict}
@@ -26,9 +27,6 @@ all-same {ℓ} : {A : Type ℓ} (n i : ℕ) (a : A) → getD (replicate n a) i a
 all-same zero i a = refl
 all-same (suc n) zero a = refl
 all-same (suc n) (suc i) a = all-same n i a
-
-item-new : (i : ℕ) → itemAt empty i ≡ 0
-item-new i = all-same mostEntries i 0
 
 -- routine 0 as the first entry leaves all entries 0
 item-first : (i : ℕ) → itemAt (pushed empty 0) i ≡ 0
@@ -64,7 +62,7 @@ new-game-fits s a =
       routinesBeyond = λ r l m. routine r;
       countersBeyond = λ c l m. all-same mostCounters c (pos 0);
       signalsBeyond = λ e l m. all-same mostSignals e false;
-      entriesBeyond = (λ i l m. item-new i, λ i l m. item-first i);
+      entriesBeyond = (λ i l m. all-same mostEntries i 0, λ i l m. item-first i);
       stagesInRange = λ r l. omega (arith, stage r);
       placesInRange = λ r l. omega (arith, ap (λ x. x .place) (routine r));
       countersInRange = λ c l. rw (all-same mostCounters c (pos 0)) (leZ-yes tt, leZ-yes tt);
@@ -74,7 +72,7 @@ new-game-fits s a =
       unlistedStages = λ r l h inside. omega arith;
       noneTwice = (λ i j l m e. omega arith, λ i j l m e. omega arith);
       startStages = λ r inside. stage r;
-      leftWhereBegun = λ r l h. absurd (true≢false (sym h ∙ ap (λ x. x .begun) (routine r)));
+      leftWhereBegun = λ r l h. clash h (ap (λ x. x .begun) (routine r));
       leftElsewhere = λ r l h. ap (λ x. x .left) (routine r);
     }
 

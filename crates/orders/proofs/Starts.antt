@@ -2,7 +2,7 @@
 -- Both fit, what was in it is still there, and a second start of the same routine adds nothing.
 use Prim.Native.Nat.{ℕ, _+_, _<_, _≤_}
 use mathlib.Core.Path.{_≡_, refl, sym, _∙_}
-use mathlib.Core.Bool.{true, false, _&&_, not, true≢false, and-false}
+use mathlib.Core.Bool.{true, false, _&&_, not, and-false}
 use mathlib.Core.List.{List}
 use mathlib.Core.Logic.{_⊎_, inl, inr}
 use native.Mathlib.Omega.{arith}
@@ -10,7 +10,7 @@ use borrow.Author.Tests.{ltb-true, eqb-true, ne-eqb, not-true}
 use lib.Dec.{ltb, eqb}
 use lib.ListN.{length, length-set}
 use lib.Seq.{getD-set-same, getD-set-other}
-use Rattle.numbers.proofs.Tests.{and-both, by-test}
+use Rattle.numbers.proofs.Tests.{clash, and-both, by-test}
 use Rattle.layout.specs.Layout.{routinesOf}
 use Rattle.game.specs.declared.Line.{Line}
 use Rattle.game.specs.declared.Game.{Game}
@@ -77,7 +77,7 @@ module _ (l : Line) (r : ℕ) (z : length (l .items) ≡ mostEntries) where
           once =
               λ i.
               set-each (l .items) (l .len) r 0 (λ j v. i < j → j < l .len + 1 → itemAt (joined l r) i ≡ v → ⊥) inside
-              (λ a b e. true≢false (sym (is-in l (t .short) r .1 (i, a, sym (joined-before i (λ k. omega arith)) ∙ e)) ∙ new))
+              (λ a b e. clash (is-in l (t .short) r .1 (i, a, sym (joined-before i (λ k. omega arith)) ∙ e)) new)
               (λ j n a b e. t .once i j a (omega arith) (sym (joined-before i (λ k. omega arith)) ∙ e));
         }
 

@@ -2,12 +2,11 @@
 -- A reason settles each check up to its own, so it is enough to find one. The checks that a round shares with an order come first.
 use Prim.Native.Nat.{ℕ, zero, suc, _<_}
 use mathlib.Core.Path.{_≡_, refl, _∙_}
-use mathlib.Core.Bool.{true, Bool-discrete}
 use mathlib.Core.List.{List}
 use native.Mathlib.Omega.{arith}
 use native.Mathlib.Decide.{decLt}
 use borrow.Author.Tests.{lt-ltb, le-ltb}
-use Rattle.numbers.proofs.Tests.{not-true-false}
+use Rattle.numbers.proofs.Tests.{clash, not-true-false, by-flag}
 use Rattle.layout.specs.declared.Verdict.{Verdict}
 use Rattle.layout.specs.Verdicts.{refused, _orElse_}
 use Rattle.layout.specs.Layout.{countsOf}
@@ -43,7 +42,7 @@ module _ (s : List ℕ) (g : Game) where
   by-fit refusal unfit fits =
       by-book (number-accepted s) (tells s) (λ k t. refusal k _ t) (λ a.
       let fitting = fits-decides s (a .laid .counts) g in
-      elim (Bool-discrete (fitsBook s g) true) [ yes f ↦ fits a (fitting .0 f) | no h ↦ unfit a (λ f. h (fitting .1 f)) ])
+      by-flag (fitsBook s g) (λ h. fits a (fitting .0 h)) (λ h. unfit a (λ f. clash (fitting .1 f) h)))
 
 pub order-told-only : {s : List ℕ} {g : Game} {kind n : ℕ} {v : Verdict} → OrderTells s g kind n v → orderVerdict s g kind n ≡ v
 unfolding orderVerdict
