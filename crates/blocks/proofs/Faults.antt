@@ -2,7 +2,7 @@
 -- By the depth left and the steps left: with the openings that are still open, a block or a step that is past keeps its place reached.
 use Prim.Native.Nat.{ℕ, zero, suc, _+_, _≤_, _<_, min, _-_}
 use mathlib.Core.Path.{_≡_, refl, ap, subst}
-use mathlib.Core.Bool.{Bool, true, false, true≢false, _&&_, _||_}
+use mathlib.Core.Bool.{Bool, false, _&&_, _||_}
 use mathlib.Core.List.{List, [], _∷_}
 use mathlib.Core.Logic.{_⊎_, inl, inr}
 use native.Mathlib.Numerals.{add-one}
@@ -11,7 +11,7 @@ use lib.Dec.{ltb}
 use lib.ListN.{length}
 use borrow.Author.Tests.{ltb-true}
 use Rattle.numbers.specs.Choice.{if_then_else_}
-use Rattle.numbers.proofs.Tests.{by-test}
+use Rattle.numbers.proofs.Tests.{clash, first-or-second, by-test}
 use Rattle.kinds.specs.declared.Form.{Form}
 use Rattle.kinds.specs.declared.Form.the-variants.{Plain, Pausing, IfOpening, ElseMarker, WhileOpening, EndMarker}
 use Rattle.blocks.specs.declared.Fault.{Fault}
@@ -22,22 +22,18 @@ use Rattle.kinds.specs.Forms.{isElse, isEnd}
 use Rattle.blocks.specs.Blocks.{View, beyond, unreadable, stands, elseAt, andThen, closed, deepest}
 use Rattle.blocks.specs.Blocks.{ifBy, whileBy, stepBy, blockStep, blockBy, stepOf, blockOf, routineOf}
 use Rattle.blocks.specs.Parse.{Open, openIf, openElse, openWhile, openingOf, Reached, Misplaced}
-use Rattle.blocks.proofs.Views.{Stops, within, stands-within, stands-not-beyond, unreadable-not-beyond, else-at}
-use Rattle.blocks.proofs.Views.{Says, says-more, says-then, says-closed}
-
-marker-form : (f : Form) → (isElse f || isEnd f) ≡ true → (f ≡ ElseMarker) ⊎ (f ≡ EndMarker)
-marker-form Plain e = inl cc
-marker-form Pausing e = inl cc
-marker-form IfOpening e = inl cc
-marker-form ElseMarker e = inl refl
-marker-form WhileOpening e = inl cc
-marker-form EndMarker e = inr refl
+use Rattle.blocks.proofs.Views.{Stops, within, stands-within, stands-not-beyond, unreadable-not-beyond}
+use Rattle.blocks.proofs.Views.{Says, says-more, says-then, end-marker, else-marker, else-at, says-closed}
 
 -- the marker where a block stops is an else or an end
 stop-form : (x : View) → Stops x → (x ≡ beyond → ⊥) → (x ≡ stands ElseMarker) ⊎ (x ≡ stands EndMarker)
 stop-form beyond t h = absurd (h refl)
 stop-form unreadable t h = absurd t
-stop-form (stands f) t h = elim (marker-form f t) [ inl e ↦ inl (ap stands e) | inr e ↦ inr (ap stands e) ]
+stop-form (stands f) t h =
+    elim (first-or-second (isElse f) (isEnd f) t) [
+      | inl e ↦ inl (ap stands (else-marker f e))
+      | inr (n, e) ↦ inr (ap stands (end-marker f e))
+    ]
 
 stop-else : (x : View) (f : Form) → Stops x → x ≡ stands f → isEnd f ≡ false → x ≡ stands ElseMarker
 stop-else x f t h i = elim (stop-form x t (stands-not-beyond h)) [ inl e ↦ e | inr e ↦ cc ]
@@ -111,7 +107,7 @@ module _ (at : ℕ → View) (n : ℕ) (out : (p : ℕ) → n ≤ p → at p ≡
         by-test (Says (StepEnds os p) FaultIs) (elseAt (at q))
         (λ e. else-faults p q u l (stands-within at n out p h) (omega arith) (b .0) (else-at (at q) e))
         (λ e. closed-faults os (openIf p) q false l (stands-within at n out p h) (omega arith) (b .0) (b .1)
-        (λ k. absurd (true≢false (rw k at e)))))
+        (λ k. clash (ap elseAt k) e)))
 
     whileBy-faults : (p : ℕ) → Reached at os p → at p ≡ stands WhileOpening → Says (StepEnds os p) FaultIs (whileBy at n block p)
     whileBy-faults p r h =
@@ -127,9 +123,9 @@ module _ (at : ℕ → View) (n : ℕ) (out : (p : ℕ) → n ≤ p → at p ≡
     stepBy-faults Plain p r h e = rw add-one (Reached.plain r h, omega arith)
     stepBy-faults Pausing p r h e = rw add-one (Reached.pausing r h, omega arith)
     stepBy-faults IfOpening p r h e = I p r h
-    stepBy-faults ElseMarker p r h e = absurd (true≢false e)
+    stepBy-faults ElseMarker p r h e = clash refl e
     stepBy-faults WhileOpening p r h e = W p r h
-    stepBy-faults EndMarker p r h e = absurd (true≢false e)
+    stepBy-faults EndMarker p r h e = clash refl e
 
   blockOf-by :
       (d : ℕ) (os : List Open) → StepsEnd os (stepOf at n d) →

@@ -77,7 +77,7 @@ module _ (P Q : ℕ → Bool → ℕ → Type 0) (F : Fault → Type 0) where
   says-then (walk.Past q u l) next h k = k q u l h
   says-then (walk.Fault f) next h k = h
 
-end-marker : (f : Form) → isEnd f ≡ true → f ≡ EndMarker
+pub end-marker : (f : Form) → isEnd f ≡ true → f ≡ EndMarker
 end-marker Plain e = cc
 end-marker Pausing e = cc
 end-marker IfOpening e = cc
@@ -85,7 +85,7 @@ end-marker ElseMarker e = cc
 end-marker WhileOpening e = cc
 end-marker EndMarker e = cc
 
-else-marker : (f : Form) → isElse f ≡ true → f ≡ ElseMarker
+pub else-marker : (f : Form) → isElse f ≡ true → f ≡ ElseMarker
 else-marker Plain e = cc
 else-marker Pausing e = cc
 else-marker IfOpening e = cc
