@@ -1,6 +1,6 @@
 -- A step of a part is the step at its place in the whole: in the part where a routine begins, and in the part that showing it gives.
 -- A step is read from its eight bytes alone, so it is enough that the part has these bytes, and that it is long enough where the whole is.
-use Prim.Native.Nat.{ℕ, _+_, _-_, _*_, _/_, _≤_, _<_}
+use Prim.Native.Nat.{ℕ, _+_, _*_, _/_, _≤_, _<_}
 use mathlib.Core.Path.{_≡_, _∙_, sym}
 use mathlib.Core.List.{List}
 use native.Mathlib.Nat.{add-zero}
