@@ -5,10 +5,7 @@ use mathlib.Core.Path.{_≡_, refl, ap}
 use mathlib.Core.Bool.{Bool, true, false}
 use mathlib.Core.List.{List}
 use mathlib.Core.Logic.{_⊎_, inl, inr, ⊎-elim}
-use native.Mathlib.Omega.{arith}
-use native.Mathlib.Decide.{ℕ-discrete, decLt}
-use lib.ListN.{length, getD, set}
-use lib.Seq.{getD-set-same, getD-set-other, set-out}
+use lib.ListN.{getD, set}
 use Rattle.game.specs.declared.Routine.{Routine}
 use Rattle.game.specs.declared.Game.{Game}
 use Rattle.game.specs.Game.{notStarted, blank, routineAt, withStarting, withRoutine, Sized}
@@ -17,22 +14,10 @@ use Rattle.fitting.specs.Fits.{In, Fits}
 use Rattle.fitting.proofs.Lists.{is-in}
 use Rattle.orders.specs.Orders.{orderVerdict, obeyed, ordered}
 use Rattle.orders.specs.Joined.{Joined, OnlyAdds}
+use Rattle.orders.proofs.Stores.{entry-set}
 use Rattle.orders.proofs.Games.{game-either}
 use Rattle.orders.proofs.Starts.{nothing-added, start-nothing, start-adds}
 use Rattle.orders.proofs.Telling.{told-right, order-tells}
-
--- a claim on an entry once y is put in place n: on y there, and on the others as they were
-entry-set :
-    {A : Type 0} (P : A → Type 0) (l : List A) (n : ℕ) (y d : A) (m : ℕ) → (m ≡ n → P y) → P (getD l m d) → P (getD (set l n y) m d)
-entry-set P l n y d m new old =
-    elim (ℕ-discrete m n) [
-      | no other ↦ rw (getD-set-other l n m y d other) old
-      | yes e ↦
-          elim (decLt n (length l)) [
-            | yes h ↦ rw (e, getD-set-same l n y d h) (new e)
-            | no out ↦ rw (set-out l n y (omega arith)) old
-          ]
-    ]
 
 -- an entry whose flag is set, put in place n
 flag-adds :

@@ -3,9 +3,10 @@
 use Prim.Native.Nat.{ℕ, zero, suc, _<_}
 use mathlib.Core.Path.{_≡_, refl, sym, _∙_, ap}
 use mathlib.Core.List.{List, [], _∷_, map}
-use native.Mathlib.Decide.{ℕ-discrete}
+use native.Mathlib.Decide.{ℕ-discrete, decLt}
+use native.Mathlib.Omega.{arith}
 use lib.ListN.{length, getD, set, List·getD-map}
-use lib.Seq.{getD-set-same, getD-set-other, map-set-same}
+use lib.Seq.{getD-set-same, getD-set-other, set-out, map-set-same}
 
 -- what holds of the entry put in place n, and of the others, holds of each
 pub set-each :
@@ -13,6 +14,19 @@ pub set-each :
     ((i : ℕ) → (i ≡ n → ⊥) → P i (getD l i d)) → (i : ℕ) → P i (getD (set l n y) i d)
 set-each l n y d P h here others i =
     elim (ℕ-discrete i n) [ yes e ↦ rw (e, getD-set-same l n y d h) here | no m ↦ rw (getD-set-other l n i y d m) (others i m) ]
+
+-- a claim on one entry once y is put in place n, or beyond the list: on y there, and on the entry as it was
+pub entry-set :
+    {A : Type 0} (P : A → Type 0) (l : List A) (n : ℕ) (y d : A) (m : ℕ) → (m ≡ n → P y) → P (getD l m d) → P (getD (set l n y) m d)
+entry-set P l n y d m new old =
+    elim (ℕ-discrete m n) [
+      | no other ↦ rw (getD-set-other l n m y d other) old
+      | yes e ↦
+          elim (decLt n (length l)) [
+            | yes h ↦ rw (e, getD-set-same l n y d h) (new e)
+            | no out ↦ rw (set-out l n y (omega arith)) old
+          ]
+    ]
 
 module _ {A B : Type 0} (f : A → B) where
   pub map-set : (l : List A) (i : ℕ) (x : A) → map f (set l i x) ≡ set (map f l) i (f x)
