@@ -1,8 +1,8 @@
 -- For a book whose counts are in range, the test whether a game fits it passes exactly where each clause of document 01 holds.
 -- By what each part of the test says: once the game's numbers R, E and C are the book's, the parts and the clauses say the same.
 use Prim.Native.Nat.{ℕ, _<_, _≤_}
-use mathlib.Core.Path.{_≡_, refl, sym, ap, subst, subst⁻¹}
-use mathlib.Core.Bool.{Bool, true, false, true≢false}
+use mathlib.Core.Path.{_≡_, refl, ap, subst, subst⁻¹}
+use mathlib.Core.Bool.{Bool, true, false}
 use mathlib.Core.List.{List}
 use mathlib.Core.Logic.{_↔_, Iff·trans}
 use native.Mathlib.Omega.{arith}
@@ -12,10 +12,11 @@ use lib.ListN.{getD}
 use lib.IntN.{ℤ, pos, negsuc}
 use lib.Signed.{_≤ℤ_, leZ}
 use Rattle.numbers.specs.Numbers.{lowestCounter, highestCounter, isWithin}
-use Rattle.numbers.proofs.Tests.{and-both}
+use Rattle.numbers.proofs.Tests.{clash, and-both}
 use Rattle.kinds.specs.declared.Counts.{Counts}
 use Rattle.layout.specs.Layout.{mostRoutines, mostSignals, mostCounters, routinesOf, countsOf}
 use Rattle.book.specs.Accepted.{CountsInRange}
+use Rattle.game.specs.declared.Routine.{Routine}
 use Rattle.game.specs.declared.Game.{Game}
 use Rattle.game.specs.Lines.{mostEntries}
 use Rattle.game.specs.Game.{blank, routineAt}
@@ -43,14 +44,14 @@ ordered a b = (λ e. record { le = rw e tt }, λ h. holds (leZ a b) (h .le))
 
 only-zero : (v : ℤ) → isWithin v (pos 0) (pos 0) ≡ true → v ≡ pos 0
 only-zero (pos n) h = ap pos (omega (arith, leb-true n 0 (and-both (leb 0 n) (leb n 0) h .1)))
-only-zero (negsuc n) h = absurd (true≢false (sym h))
+only-zero (negsuc n) h = clash h refl
 
 -- of the counters that are kept, those below C are in range and the others are 0
+abbrev pub CounterRight : ℕ → ℕ → ℤ → Type 0
+CounterRight counters c v = (c < counters → (lowestCounter ≤ℤ v) × (v ≤ℤ highestCounter)) × (counters ≤ c → v ≡ pos 0)
+
 abbrev CountersRight : List ℤ → ℕ → Type 0
-CountersRight values counters =
-    (c : ℕ) → c < mostCounters →
-    (c < counters → (lowestCounter ≤ℤ getD values c (pos 0)) × (getD values c (pos 0) ≤ℤ highestCounter)) ×
-    (counters ≤ c → getD values c (pos 0) ≡ pos 0)
+CountersRight values counters = (c : ℕ) → c < mostCounters → CounterRight counters c (getD values c (pos 0))
 
 counters-right : (values : List ℤ) (counters : ℕ) → (countersFit values counters ≡ true) ↔ CountersRight values counters
 unfolding countersFit
@@ -66,27 +67,27 @@ unfolding signalsFit
 signals-right flags signals = each mostSignals _ (λ e l. or-else _ (not-less e signals) (fails (getD flags e false)))
 
 module _ (s : List ℕ) (g : Game) where
-  abbrev OneRight : ℕ → Type 0
-  OneRight r = RoutineRight s r (routineAt g r) (In (g .listed) r) (In (g .starting) r)
+  abbrev OneRight : ℕ → Routine → Type 0
+  OneRight r x = RoutineRight s r x (In (g .listed) r) (In (g .starting) r)
 
   -- what is kept of a number r: below R a routine that is right, and nothing from there on
-  abbrev SlotRight : ℕ → ℕ → Type 0
-  SlotRight routines r = (r < routines → OneRight r) × (routines ≤ r → routineAt g r ≡ blank)
+  abbrev pub SlotRight : ℕ → ℕ → Routine → Type 0
+  SlotRight routines r x = (r < routines → OneRight r x) × (routines ≤ r → x ≡ blank)
 
   slot-right :
       g .listed .len ≤ mostEntries → g .starting .len ≤ mostEntries → (r : ℕ) →
-      (slotFits s g r ≡ true) ↔ SlotRight (g .counts .routines) r
+      (slotFits s g r ≡ true) ↔ SlotRight (g .counts .routines) r (routineAt g r)
   unfolding slotFits
   slot-right listed starting r =
       let one = routine-right s r (routineAt g r) _ _ (is-in (g .listed) listed r) (is-in (g .starting) starting r) in
       by-order r (g .counts .routines) one (is-blank (routineAt g r))
 
   -- what the parts of the test say, over the numbers R, E and C
-  abbrev Parts : Counts → Type 0
+  abbrev pub Parts : Counts → Type 0
   Parts n =
       (((((g .counts ≡ countsOf s) × LineRight (g .listed) (n .routines)) × LineRight (g .starting) (n .routines)) ×
       CountersRight (g .counters) (n .counters)) × SignalsRight (g .broadcast) (n .signals)) ×
-      ((r : ℕ) → r < mostRoutines → SlotRight (n .routines) r)
+      ((r : ℕ) → r < mostRoutines → SlotRight (n .routines) r (routineAt g r))
 
   parts : (fitsBook s g ≡ true) ↔ Parts (g .counts)
   unfolding fitsBook
@@ -99,9 +100,9 @@ module _ (s : List ℕ) (g : Game) where
       and-then signals (λ h. each mostRoutines (slotFits s g) (λ r l. slot-right (h .0 .0 .0 .1 .short) (h .0 .0 .1 .short) r))
 
   -- over the book's numbers, the parts are the clauses
-  parts-fit : CountsInRange s → Parts (countsOf s) → Fits s g
+  pub parts-fit : CountsInRange s → Parts (countsOf s) → Fits s g
   parts-fit range (((((counts, listed), starting), counters), signals), routines) =
-      let one : (r : ℕ) → r < routinesOf s → OneRight r = λ r l. routines r (omega (arith, range .fewRoutines)) .0 l in
+      let one : (r : ℕ) → r < routinesOf s → OneRight r (routineAt g r) = λ r l. routines r (omega (arith, range .fewRoutines)) .0 l in
       record {
         numbers = counts;
         routinesBeyond = λ r l k. routines r k .1 l;
@@ -128,7 +129,7 @@ module _ (s : List ℕ) (g : Game) where
       record { short = f .lengthsInRange .1; entries = f .entriesInRange .1; beyond = f .entriesBeyond .1; once = f .noneTwice .1 },
     )
 
-    fit-one : (r : ℕ) → r < routinesOf s → OneRight r
+    fit-one : (r : ℕ) → r < routinesOf s → OneRight r (routineAt g r)
     fit-one r l =
         record {
           stage = f .stagesInRange r l;
@@ -140,7 +141,7 @@ module _ (s : List ℕ) (g : Game) where
           notBegun = f .leftElsewhere r l;
         }
 
-    fit-parts : Parts (countsOf s)
+    pub fit-parts : Parts (countsOf s)
     fit-parts = (
       (
         (((f .numbers, fit-lists .0), fit-lists .1), λ c k. (f .countersInRange c, λ l. f .countersBeyond c l k)),
