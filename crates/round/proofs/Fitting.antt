@@ -1,6 +1,6 @@
 -- A step's effect on what the book has leaves a sound state sound. By cases on the effect: a counter gets a content in range, a signal is
 -- given, and an order of a step changes the game as an order from outside does.
-use Prim.Native.Nat.{ℕ, _<_, _≤_}
+use Prim.Native.Nat.{ℕ, _<_}
 use mathlib.Core.Path.{_≡_, _∙_}
 use mathlib.Core.Bool.{Bool, true}
 use mathlib.Core.List.{List, [], _∷_, _++_}
@@ -15,6 +15,7 @@ use Rattle.book.specs.Accepted.{Accepted}
 use Rattle.game.specs.declared.Game.{Game}
 use Rattle.game.specs.Game.{withCounter, Sized}
 use Rattle.fitting.specs.Fits.{Fits}
+use Rattle.fitting.proofs.Decides.{CounterRight, parts-fit, fit-parts}
 use Rattle.orders.specs.Orders.{orderCount, obeyed}
 use Rattle.orders.proofs.Obeyed.{obeyed-fits, obeyed-sized}
 use Rattle.orders.proofs.Stores.{set-each}
@@ -78,32 +79,16 @@ module _ {book : List ℕ} {s : State} (h : Sound book s) where
   counter-sound :
       Accepted book → (c : ℕ) (v : ℤ) → c < countersOf book → InRange v → Sound book (withGame s (withCounter (s .game) c v))
   counter-sound a c v below inside =
-      let f = h .fits in
       let z = h .sized in
       let l = s .game .counters in
       let there : c < length l = omega (arith, z .counters, a .laid .counts .fewCounters) in
+      let (((lists, counters), signals), routines) = fit-parts book (s .game) (h .fits) in
+      let changed =
+      set-each l c v (pos 0) (λ i w. i < mostCounters → CounterRight (countersOf book) i w) there
+      (λ k. (λ b. inside, λ out. absurd (omega arith))) (λ i m. counters i)
+      in
       game-sound (withCounter (s .game) c v)
-      (record {
-        numbers = f .numbers;
-        routinesBeyond = f .routinesBeyond;
-        countersBeyond =
-            set-each l c v (pos 0) (λ i w. countersOf book ≤ i → i < mostCounters → w ≡ pos 0) there (λ k m. absurd (omega arith))
-            (λ i m. f .countersBeyond i);
-        signalsBeyond = f .signalsBeyond;
-        entriesBeyond = f .entriesBeyond;
-        stagesInRange = f .stagesInRange;
-        placesInRange = f .placesInRange;
-        countersInRange =
-            set-each l c v (pos 0) (λ i w. i < countersOf book → InRange w) there (λ k. inside) (λ i m. f .countersInRange i);
-        lengthsInRange = f .lengthsInRange;
-        entriesInRange = f .entriesInRange;
-        listedStages = f .listedStages;
-        unlistedStages = f .unlistedStages;
-        noneTwice = f .noneTwice;
-        startStages = f .startStages;
-        leftWhereBegun = f .leftWhereBegun;
-        leftElsewhere = f .leftElsewhere;
-      })
+      (parts-fit book (withCounter (s .game) c v) (a .laid .counts) (((lists, changed), signals), routines))
       (record {
         routines = z .routines;
         counters = length-set l c v ∙ z .counters;

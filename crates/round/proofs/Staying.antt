@@ -2,19 +2,17 @@
 -- allows. The turn then puts its routine there, in a stage of a listed routine.
 use Prim.Native.Nat.{ℕ, _<_, _≤_}
 use mathlib.Core.Path.{_≡_, _∙_}
-use mathlib.Core.Bool.{true, false}
+use mathlib.Core.Bool.{true}
 use mathlib.Core.List.{List}
 use mathlib.Core.Logic.{_⊎_, inl, inr}
 use native.Mathlib.Omega.{arith}
 use lib.ListN.{length, length-set}
 use Rattle.blocks.proofs.Views.{standing-below}
-use Rattle.layout.specs.Layout.{mostRoutines, routinesOf, stepCount, countsOf}
+use Rattle.layout.specs.Layout.{mostRoutines, routinesOf, countsOf}
 use Rattle.book.specs.Book.{routineSteps}
 use Rattle.book.specs.Accepted.{Accepted}
-use Rattle.kinds.specs.Steps.{stepAt}
-use Rattle.kinds.specs.Timed.{Timed}
-use Rattle.game.specs.Game.{notStarted, continuing, rested, ended, stopped, blank, routineAt, withRoutine}
-use Rattle.fitting.specs.Fits.{In}
+use Rattle.game.specs.Game.{notStarted, continuing, ended, stopped, blank, routineAt, withRoutine}
+use Rattle.fitting.proofs.Decides.{SlotRight, parts-fit, fit-parts}
 use Rattle.orders.proofs.Stores.{set-each}
 use Rattle.round.specs.declared.Ending.{Ending}
 use Rattle.round.specs.declared.Ending.the-variants.{Ended, Rested, Missed, Continued}
@@ -83,46 +81,25 @@ module _ (book : List ℕ) (a : Accepted book) (r : ℕ) (below : r < routinesOf
       let g = s .game in
       let x = placed (routineAt g r) stage y in
       let there : r < length (g .routines) = omega (arith, z .routines, a .laid .counts .fewRoutines) in
-      game-sound h (withRoutine g r x)
-      (record {
-        numbers = f .numbers;
-        routinesBeyond =
-            set-each (g .routines) r x blank (λ i w. routinesOf book ≤ i → i < mostRoutines → w ≡ blank) there
-            (λ k m. absurd (omega arith)) (λ i m. f .routinesBeyond i);
-        countersBeyond = f .countersBeyond;
-        signalsBeyond = f .signalsBeyond;
-        entriesBeyond = f .entriesBeyond;
-        stagesInRange =
-            set-each (g .routines) r x blank (λ i w. i < routinesOf book → w .stage ≤ stopped) there
-            (λ k. omega arith) (λ i m. f .stagesInRange i);
-        placesInRange =
-            set-each (g .routines) r x blank (λ i w. i < routinesOf book → w .place ≤ stepCount book i) there
-            (λ k. omega (arith, stand .inside, size-same book a r below)) (λ i m. f .placesInRange i);
-        countersInRange = f .countersInRange;
-        lengthsInRange = f .lengthsInRange;
-        entriesInRange = f .entriesInRange;
-        listedStages =
-            set-each (g .routines) r x blank
-            (λ i w. i < routinesOf book → (w .stage ≡ continuing) ⊎ (w .stage ≡ rested) → In (g .listed) i) there
-            (λ k l. f .listedStages r below (inl before)) (λ i m. f .listedStages i);
-        unlistedStages =
-            set-each (g .routines) r x blank
-            (λ i w. i < routinesOf book → (w .stage ≡ notStarted) ⊎ (w .stage ≡ stopped) → In (g .listed) i → ⊥) there
-            (λ k l. absurd (not-unlisted low high l)) (λ i m. f .unlistedStages i);
-        noneTwice = f .noneTwice;
-        startStages =
-            set-each (g .routines) r x blank (λ i w. In (g .starting) i → w .stage ≡ notStarted) there
-            (λ l. absurd (omega (arith, f .startStages r l, before))) (λ i m. f .startStages i);
-        leftWhereBegun =
-            set-each (g .routines) r x blank
-            (λ i w.
-            i < routinesOf book → w .begun ≡ true →
-            (n : ℕ) × Timed (stepAt (countsOf book) (routineSteps book i) (w .place)) n × (w .left < n)) there
-            (λ k. stand .whereBegun) (λ i m. f .leftWhereBegun i);
-        leftElsewhere =
-            set-each (g .routines) r x blank (λ i w. i < routinesOf book → w .begun ≡ false → w .left ≡ 0) there
-            (λ k. stand .elsewhere) (λ i m. f .leftElsewhere i);
-      })
+      let (others, routines) = fit-parts book g f in
+      let moved =
+      set-each (g .routines) r x blank (λ i w. i < mostRoutines → SlotRight book g (routinesOf book) i w) there
+      (λ k. (
+        λ l.
+            record {
+              stage = omega arith;
+              place = omega (arith, stand .inside, size-same book a r below);
+              listed = λ way. f .listedStages r below (inl before);
+              unlisted = λ out. absurd (not-unlisted low high out);
+              starting = λ due. absurd (omega (arith, f .startStages r due, before));
+              begun = stand .whereBegun;
+              notBegun = stand .elsewhere;
+            },
+        λ out. absurd (omega arith),
+      ))
+      (λ i m. routines i)
+      in
+      game-sound h (withRoutine g r x) (parts-fit book (withRoutine g r x) (a .laid .counts) (others, moved))
       (record {
         routines = length-set (g .routines) r x ∙ z .routines;
         counters = z .counters;
