@@ -2,13 +2,13 @@
 -- again with nothing come since does what the try before did; with the thing there the routine goes past.
 use Prim.Native.Nat.{ℕ, _+_, _<_}
 use mathlib.Core.Path.{_≡_, refl, sym, ap, _∙_, subst}
-use mathlib.Core.Bool.{Bool, true, false, not, Bool-discrete}
+use mathlib.Core.Bool.{Bool, true, false, not}
 use mathlib.Core.List.{List, [], _∷_}
 use native.Mathlib.Numerals.{add-one}
 use native.Mathlib.Omega.{arith}
 use lib.Seq.{set-getD}
 use Rattle.numbers.specs.Choice.{if_then_else_}
-use Rattle.numbers.proofs.Tests.{not-true-false, by-test}
+use Rattle.numbers.proofs.Tests.{by-test, by-flag}
 use Rattle.kinds.specs.declared.Counts.{Counts}
 use Rattle.layout.specs.Layout.{routinesOf, countsOf}
 use Rattle.book.specs.Book.{routineSteps}
@@ -106,23 +106,22 @@ module _ (book : List ℕ) where
         let e : how ≡ Continued = cc in
         let on : isGoing (turn book r s .state) r ≡ true = after ∙ ap (λ h. not (isDone (took h))) e in
         let c = turn-continues book a r s l going on .1 in
+        let w = c .lacks in
         record {
-          place = c .place;
-          thing = c .thing;
+          place = w .place;
+          thing = w .thing;
           before = c .before;
           missed = c .history;
           tryAgain =
               λ u stage suspended position missed unclosed.
-              let waits = waits-too book r (c .place) (c .thing) (turn book r s .state) u position (c .waits) in
-              turn-unchanged r (c .place) (c .thing) u (rw (stage, suspended) on) waits missed unclosed;
+              let waits = waits-too book r (w .place) (w .thing) (turn book r s .state) u position (w .waits) in
+              turn-unchanged r (w .place) (w .thing) u (rw (stage, suspended) on) waits missed unclosed;
         }
       where
         -- it was not passed over
         going : isGoing s r ≡ true
-        going = elim (Bool-discrete (isGoing s r) true) [
-          | yes h ↦ h
-          | no n ↦
-              let over = turn-over book r s (not-true-false (isGoing s r) n) in
-              let z : _≡_ {A = ℕ} 0 1 = cc in
-              absurd (omega arith)
-        ]
+        going =
+            by-flag (isGoing s r) (λ h. h) (λ h.
+            let over = turn-over book r s h in
+            let z : _≡_ {A = ℕ} 0 1 = cc in
+            absurd (omega arith))

@@ -7,6 +7,7 @@ use mathlib.Core.List.{List, [], _∷_, _++_, append-assoc}
 use mathlib.Core.Logic.{_⊎_, inl, inr, _≢_}
 use native.Mathlib.Decide.{ℕ-discrete}
 use native.Mathlib.Omega.{arith}
+use Rattle.numbers.proofs.Tests.{clash, by-flag}
 use Rattle.round.specs.State.{State, Thing, Happening, gave, ended, missing, past, marked, completed, isThere}
 use Rattle.round.specs.History.{howMany, Among, Somewhere}
 use Rattle.round.specs.Rounds.{Played, again, turn, pass}
@@ -15,7 +16,7 @@ use Rattle.round.specs.Whole.{isMiss}
 use Rattle.round.proofs.Along.{All}
 use Rattle.round.proofs.TurnLaws.{isGoing, moves, Turned, others-going, Waits, waits-too, ToBeContinued, TurnLaws}
 use Rattle.round.proofs.Histories.{moves-append, somewhere-append, nothing-comes}
-use Rattle.round.proofs.Waiting.{by-flag, clash, passed}
+use Rattle.round.proofs.Waiting.{passed}
 use Rattle.round.proofs.Closing.{there-again, waits-again}
 
 -- a missing thing does not come by being missing
@@ -148,10 +149,11 @@ module _ {book : List ℕ} {Listed : ℕ → Type 0} {Ok : State → Type 0} (la
             isGoing (turn book r s .state) r ≡ true → ToBeContinued book r (turn book r s .state) (turn book r s .told) →
             Caught (turn book r s .told ++ b)
         missed h x =
-            let last = missing r (x .place) (x .thing) in
+            let w = x .lacks in
+            let last = missing r (w .place) (w .thing) in
             subst (λ (a : List Happening). Caught (a ++ b)) (sym (x .history))
             (subst Caught (sym (append-assoc (x .before) (last ∷ []) b))
-            (calm-then (x .before) (last ∷ b) (x .calm) (λ z. f r (x .place) (x .thing) i h (x .waits) (inr z), c)))
+            (calm-then (x .before) (last ∷ b) (x .calm) (λ z. f r (w .place) (w .thing) i h (w .waits) (inr z), c)))
 
   -- a pass before what is caught
   pub caught-pass :

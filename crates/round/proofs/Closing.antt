@@ -7,14 +7,14 @@ use mathlib.Core.List.{List, [], _∷_}
 use mathlib.Core.Logic.{inl, inr}
 use native.Mathlib.Decide.{ℕ-discrete}
 use native.Mathlib.Omega.{arith}
-use Rattle.numbers.proofs.Tests.{not-true-false, both-true}
+use Rattle.numbers.proofs.Tests.{clash, both-true, not-true-false, by-flag}
 use Rattle.round.specs.State.{State, Thing, signal, end, number, isThere, isEndThere}
 use Rattle.round.specs.History.{howMany, Among}
 use Rattle.round.specs.Rounds.{Played, allDone, again, turn, pass}
 use Rattle.round.proofs.Along.{All}
 use Rattle.round.proofs.Histories.{moves-append}
 use Rattle.round.proofs.TurnLaws.{isGoing, moves, Waits, TurnLaws}
-use Rattle.round.proofs.Waiting.{by-flag, clash, done-append, pass-stays, unmoved-pass, turn-done, was-going}
+use Rattle.round.proofs.Waiting.{done-append, pass-stays, unmoved-pass, turn-done, was-going}
 use Rattle.round.proofs.Waiting.{Stuck, stuck-own, stuck-other, stuck-pass}
 
 -- the flags for another pass change nothing else: who waits, and what is there

@@ -19,7 +19,7 @@ use Rattle.game.specs.declared.Routine.{Routine}
 use Rattle.game.specs.declared.Game.{Game}
 use Rattle.game.specs.Game.{rested, routineAt, Sized}
 use Rattle.fitting.specs.Fits.{Fits}
-use Rattle.numbers.proofs.Tests.{not-true-false}
+use Rattle.numbers.proofs.Tests.{clash, not-true-false, by-flag}
 use Rattle.round.specs.declared.Ending.{Ending}
 use Rattle.round.specs.declared.Position.{Position}
 use Rattle.round.specs.declared.Effect.{Effect}
@@ -41,7 +41,6 @@ use Rattle.round.proofs.Coming.{turn-untouched}
 use Rattle.round.proofs.AfterTurn.{taken, turn-over, turn-taken, routine-after, position-after, after-going}
 use Rattle.round.proofs.Turned.{turn-turned}
 use Rattle.round.proofs.Again.{first-tick}
-use Rattle.round.proofs.Waiting.{by-flag, clash}
 use Rattle.round.proofs.FirstTurn.{Keeps, Completes, standsFirst, Due, due-standing, round-of-one}
 use Rattle.round.proofs.FirstTurn.{due-first, due-last, told-then, thing-past}
 

@@ -8,6 +8,7 @@ use mathlib.Core.List.{List, [], _∷_, _++_}
 use mathlib.Core.Logic.{_⊎_, inl, inr, ⊎-elim}
 use native.Mathlib.Decide.{ℕ-discrete}
 use native.Mathlib.Omega.{arith}
+use Rattle.numbers.proofs.Tests.{by-flag}
 use Rattle.kinds.specs.Steps.{stepAt}
 use Rattle.layout.specs.Layout.{routinesOf, countsOf}
 use Rattle.book.specs.Book.{routineSteps}
@@ -31,7 +32,6 @@ use Rattle.round.proofs.Standings.{SameStanding, same-standing}
 use Rattle.round.proofs.AfterTurn.{going-parts}
 use Rattle.round.proofs.Turned.{turn-turned}
 use Rattle.round.proofs.Again.{misses-again, goes-past}
-use Rattle.round.proofs.Waiting.{by-flag}
 use Rattle.round.proofs.Closing.{there-again}
 use Rattle.round.proofs.CatchingUp.{never-missing}
 use Rattle.round.proofs.Demand.{demand-3}

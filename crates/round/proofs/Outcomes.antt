@@ -60,11 +60,14 @@ module _ (book : List ℕ) (a : Accepted book) where
         let there = position-after r s all (untouched .standings r) going ∙ position in (
           sym (untouched .eoi) ∙ unclosed,
           record {
-            place = shape .last .place;
-            thing = thing;
+            lacks =
+                record {
+                  place = shape .last .place;
+                  thing = thing;
+                  waits = waits-at book (afterTurn r all) r there asks;
+                  missed = after-missing r s all (untouched .standings r) going how thing missed;
+                };
             before = shape .before;
-            waits = waits-at book (afterTurn r all) r there asks;
-            missed = after-missing r s all (untouched .standings r) going how thing missed;
             history = shape .history ∙ ap (λ l. shape .before ++ l) told;
             calm = shape .noMiss;
           },

@@ -6,7 +6,7 @@ use mathlib.Core.Bool.{true, false, not}
 use mathlib.Core.List.{List, [], append-nil}
 use mathlib.Core.Logic.{_⊎_, inl, inr}
 use native.Mathlib.Omega.{arith}
-use Rattle.numbers.proofs.Tests.{by-test}
+use Rattle.numbers.proofs.Tests.{clash, by-test, by-flag}
 use Rattle.round.specs.History.{Among}
 use Rattle.round.specs.State.{State, Thing, Happening, isThere}
 use Rattle.round.specs.Rounds.{followedBy, allDone, again, pass, Round, instant}
@@ -15,8 +15,8 @@ use Rattle.round.specs.Enough.{RoundEnds}
 use Rattle.round.proofs.Along.{All}
 use Rattle.round.proofs.Histories.{moves-append, nothing-comes}
 use Rattle.round.proofs.Asking.{asks-once}
-use Rattle.round.proofs.TurnLaws.{isGoing, moves, Waits, TurnLaws}
-use Rattle.round.proofs.Waiting.{by-flag, clash, passed, pass-stays, moved-pass, done-pass, Lacks}
+use Rattle.round.proofs.TurnLaws.{isGoing, moves, Waits, Lacks, TurnLaws}
+use Rattle.round.proofs.Waiting.{passed, pass-stays, moved-pass, done-pass}
 use Rattle.round.proofs.Closing.{all-stuck, closing-pass}
 use Rattle.round.proofs.CatchingUp.{Caught, catches, quiet-caught, Owed, owed-again, caught-pass}
 

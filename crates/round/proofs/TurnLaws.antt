@@ -79,14 +79,18 @@ module _ (book : List ℕ) where
       Waits v r p t
   waits-too r p t u v same waits = rw (waits .place) at (waits-at v r same (waits .asks))
 
-  -- a turn that is to be continued: it ends at a step whose thing is missing, and everything before went on
-  pub record ToBeContinued (r : ℕ) (u : State) (told : List Happening) : Type 0 where
+  -- it waits for a thing that is not there
+  pub record Lacks (s : State) (r : ℕ) : Type 0 where
     pub place : ℕ
     pub thing : Thing
+    pub waits : Waits s r place thing
+    pub missed : isThere s thing ≡ false
+
+  -- a turn that is to be continued: it ends at a step whose thing is missing, and everything before went on
+  pub record ToBeContinued (r : ℕ) (u : State) (told : List Happening) : Type 0 where
+    pub lacks : Lacks u r
     pub before : List Happening
-    pub waits : Waits u r place thing
-    pub missed : isThere u thing ≡ false
-    pub history : told ≡ before ++ (missing r place thing ∷ [])
+    pub history : told ≡ before ++ (missing r (lacks .place) (lacks .thing) ∷ [])
     pub calm : howMany isMiss before ≡ 0
 
   pub record TurnLaws (Listed : ℕ → Type 0) (Ok : State → Type 0) : Type 0 where

@@ -1,27 +1,21 @@
 -- What a pass keeps and what its flag says, from the laws of turns. A pass whose turns are all done leaves nobody of it going, and behind
--- a pass without a move everybody of it who is still going waits for a thing that is not there. By induction on the pass's routines.
+-- a pass without a move everybody of it who is still going is stuck: it waits for a thing that is not there. Both by one induction on the
+-- pass's routines, for a claim that a turn brings about for its own routine and keeps for the others.
 use Prim.Native.Nat.{ℕ, _<_}
 use mathlib.Core.Path.{_≡_, refl, sym, ap, _∙_, subst}
-use mathlib.Core.Bool.{Bool, true, false, _&&_, not, true≢false, and-true, and-assoc, Bool·not-not}
+use mathlib.Core.Bool.{true, false, _&&_, not, and-true, and-assoc, Bool·not-not}
 use mathlib.Core.List.{List, [], _∷_, _++_}
 use mathlib.Core.Logic.{_⊎_, inl, inr, _≢_}
 use native.Mathlib.Decide.{ℕ-discrete}
 use native.Mathlib.Omega.{arith}
-use Rattle.numbers.proofs.Tests.{and-both, not-true-false, by-test}
-use Rattle.round.specs.State.{State, Thing, Happening, isThere}
+use Rattle.numbers.proofs.Tests.{and-both, not-true-false, by-flag}
+pub use Rattle.numbers.proofs.Tests.{clash}
+use Rattle.round.specs.State.{State, Happening}
 use Rattle.round.specs.History.{howMany, Among}
-use Rattle.round.specs.Rounds.{Turn, took, Played, isDone, allDone, turn, pass}
+use Rattle.round.specs.Rounds.{Turn, took, Played, followedBy, isDone, allDone, turn, pass}
 use Rattle.round.proofs.Along.{All, pass-along}
-use Rattle.round.proofs.Histories.{nothing-comes}
-pub use Rattle.round.proofs.Histories.{moves-append}
-use Rattle.round.proofs.TurnLaws.{isGoing, moves, others-going, Waits, waits-too, TurnLaws}
-
--- a claim by the two values of a flag
-pub by-flag : {P : Type 0} (b : Bool) → (b ≡ true → P) → (b ≡ false → P) → P
-by-flag {P} b = by-test (λ (u : Unit {0}). P) b {x = tt} {y = tt}
-
-pub clash : {P : Type 0} {b : Bool} → b ≡ true → b ≡ false → P
-clash t f = absurd (true≢false (sym t ∙ f))
+use Rattle.round.proofs.Histories.{moves-append, nothing-comes}
+use Rattle.round.proofs.TurnLaws.{isGoing, moves, others-going, waits-too, Lacks, TurnLaws}
 
 pub done-append : (a b : List Turn) → allDone (a ++ b) ≡ (allDone a && allDone b)
 unfolding allDone
@@ -52,16 +46,9 @@ passed-then s u v a b x y =
       ];
     }
 
-module _ (book : List ℕ) where
-  -- a routine that is still going waits for a thing that is not there
-  pub record Lacks (s : State) (r : ℕ) : Type 0 where
-    pub place : ℕ
-    pub thing : Thing
-    pub waits : Waits book s r place thing
-    pub missed : isThere s thing ≡ false
-
-  abbrev pub Stuck : State → ℕ → Type 0
-  Stuck s r = isGoing s r ≡ true → Lacks s r
+-- a routine is stuck if it waits for a thing that is not there, where it is still going
+abbrev pub Stuck : List ℕ → State → ℕ → Type 0
+Stuck book s r = isGoing s r ≡ true → Lacks book s r
 
 module _ {book : List ℕ} {Listed : ℕ → Type 0} {Ok : State → Type 0} (laws : TurnLaws book Listed Ok) where
   stays-passed :
@@ -109,31 +96,43 @@ module _ {book : List ℕ} {Listed : ℕ → Type 0} {Ok : State → Type 0} (la
   was-going r s l k g =
       by-flag (isGoing s r) (λ h. h) (λ h. clash g (ap (λ (p : Played). isGoing (p .state) r) (laws .over r s l k h) ∙ h))
 
-  -- a routine is among those of a pass, or is not going: behind the pass it is not going, if all are done
+  -- behind a pass that is such, a claim holds of each routine of it and of each of which it held, if a turn that is such brings it about for
+  -- its own routine and keeps it for the others
+  module _
+      (Claim : State → ℕ → Type 0) (Such : Played → Type 0) (parts : (p q : Played) → Such (followedBy p q) → Such p × Such q)
+      (own : (r : ℕ) (s : State) → Listed r → Ok s → Such (turn book r s) → Claim (turn book r s .state) r)
+      (other :
+      (r q : ℕ) (s : State) → Listed r → Ok s → q ≢ r → Such (turn book r s) → Claim s q → Claim (turn book r s .state) q)
+    where
+      behind-pass :
+          (l : List ℕ) → All Listed l → (s : State) → Ok s → Such (pass book l s) → (q : ℕ) → Among q l ⊎ Claim s q →
+          Claim (pass book l s .state) q
+      unfolding pass
+      behind-pass [] a s k h q (inl i) = absurd i
+      behind-pass [] a s k h q (inr x) = x
+      behind-pass (r ∷ l) a s k h q i =
+          let first = turn book r s in
+          let (now, rest) = parts first (pass book l (first .state)) h in
+          behind-pass l (a .1) (first .state) (laws .stays r s (a .0) k) rest q
+          (elim (ℕ-discrete q r) [ yes e ↦ inr (rw e (own r s (a .0) k now)) | no n ↦ next n now i ])
+        where
+          next : q ≢ r → Such (turn book r s) → Among q (r ∷ l) ⊎ Claim s q → Among q l ⊎ Claim (turn book r s .state) q
+          next n now (inl (inl e)) = absurd (n e)
+          next n now (inl (inr i)) = inl i
+          next n now (inr x) = inr (other r q s (a .0) k n now x)
+
+  -- nobody of it is going, if all are done
   pub done-pass :
       (l : List ℕ) → All Listed l → (s : State) → Ok s → allDone (pass book l s .turns) ≡ true →
       (q : ℕ) → Among q l ⊎ (isGoing s q ≡ false) → isGoing (pass book l s .state) q ≡ false
-  unfolding pass
-  done-pass [] a s k d q (inl i) = absurd i
-  done-pass [] a s k d q (inr g) = g
-  done-pass (r ∷ l) a s k d q i =
-      let first = turn book r s in
-      let (x, y) = and-both _ _ (sym (done-append (first .turns) (pass book l (first .state) .turns)) ∙ d) in
-      done-pass l (a .1) (first .state) (laws .stays r s (a .0) k) y q
-      (elim (ℕ-discrete q r) [ yes e ↦ inr (rw e (stopped x)) | no n ↦ next n i ])
-    where
-      stopped : allDone (turn book r s .turns) ≡ true → isGoing (turn book r s .state) r ≡ false
-      stopped x = not-true-false _ (λ g. clash x (turn-done r s (a .0) k ∙ ap not g))
-
-      next : q ≢ r → Among q (r ∷ l) ⊎ (isGoing s q ≡ false) → Among q l ⊎ (isGoing (turn book r s .state) q ≡ false)
-      next n (inl (inl e)) = absurd (n e)
-      next n (inl (inr i)) = inl i
-      next n (inr g) = inr (others-going (laws .turned r s (a .0) k) q n ∙ g)
+  done-pass =
+      behind-pass (λ s q. isGoing s q ≡ false) (λ p. allDone (p .turns) ≡ true)
+      (λ p q d. and-both _ _ (sym (done-append (p .turns) (q .turns)) ∙ d))
+      (λ r s l k d. not-true-false _ (λ g. clash d (turn-done r s l k ∙ ap not g)))
+      (λ r q s l k n d g. others-going (laws .turned r s l k) q n ∙ g)
 
   pub stuck-own : (r : ℕ) (s : State) → Listed r → Ok s → Stuck book (turn book r s .state) r
-  stuck-own r s l k g =
-      let c = laws .continues r s l k (was-going r s l k g) g .1 in
-      record { place = c .place; thing = c .thing; waits = c .waits; missed = c .missed }
+  stuck-own r s l k g = laws .continues r s l k (was-going r s l k g) g .1 .lacks
 
   pub stuck-other :
       (r q : ℕ) (s : State) → Listed r → Ok s → q ≢ r → moves (turn book r s .told) ≡ 0 → Stuck book s q →
@@ -150,19 +149,11 @@ module _ {book : List ℕ} {Listed : ℕ → Type 0} {Ok : State → Type 0} (la
             nothing-comes (w .thing) (turn book r s .told) m (turned .came (w .thing) (w .missed) t));
       }
 
+  -- everybody of it who is still going is stuck, if nothing moved
   pub stuck-pass :
       (l : List ℕ) → All Listed l → (s : State) → Ok s → moves (pass book l s .told) ≡ 0 →
       (q : ℕ) → Among q l ⊎ Stuck book s q → Stuck book (pass book l s .state) q
-  unfolding pass
-  stuck-pass [] a s k m q (inl i) = absurd i
-  stuck-pass [] a s k m q (inr h) = h
-  stuck-pass (r ∷ l) a s k m q i =
-      let first = turn book r s in
-      let sum = moves-append (first .told) (pass book l (first .state) .told) in
-      stuck-pass l (a .1) (first .state) (laws .stays r s (a .0) k) (omega arith) q
-      (elim (ℕ-discrete q r) [ yes e ↦ inr (rw e (stuck-own r s (a .0) k)) | no n ↦ next n (omega arith) i ])
-    where
-      next : q ≢ r → moves (turn book r s .told) ≡ 0 → Among q (r ∷ l) ⊎ Stuck book s q → Among q l ⊎ Stuck book (turn book r s .state) q
-      next n z (inl (inl e)) = absurd (n e)
-      next n z (inl (inr i)) = inl i
-      next n z (inr h) = inr (stuck-other r q s (a .0) k n z h)
+  stuck-pass =
+      behind-pass (Stuck book) (λ p. moves (p .told) ≡ 0)
+      (λ p q m. let sum = moves-append (p .told) (q .told) in (omega arith, omega arith))
+      (λ r s l k m. stuck-own r s l k) (λ r q s l k n. stuck-other r q s l k n)

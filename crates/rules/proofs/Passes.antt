@@ -38,7 +38,8 @@ use Rattle.round.proofs.AfterTurn.{going-parts, end-keeps, position-after, turn
 use Rattle.round.proofs.Staying.{turn-sound, again-sound}
 use Rattle.round.proofs.Turned.{turn-turned}
 use Rattle.round.proofs.After.{pass-keeps, instant-keeps}
-use Rattle.round.proofs.Waiting.{by-flag, done-append}
+use Rattle.numbers.proofs.Tests.{by-flag}
+use Rattle.round.proofs.Waiting.{done-append}
 use Rattle.rules.specs.Instructions.{CONT, Instruction}
 use Rattle.rules.specs.Schedulers.{is, Scheduler, has, statusOf}
 use Rattle.rules.specs.Instants.{runs, isFinished, rule33, rule34, InTurn, none, next, ExecutionStep, rule35, rule36, rule37, rule38}

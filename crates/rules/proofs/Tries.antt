@@ -9,7 +9,7 @@ use borrow.Author.Tests.{leb-true, leb-false}
 use lib.Dec.{leb}
 use lib.ListN.{length}
 use lib.IntN.{ℤ}
-use Rattle.numbers.proofs.Tests.{neither}
+use Rattle.numbers.proofs.Tests.{neither, first-or-second}
 use Rattle.round.specs.State.{State, end, number, numbersWith, isEndThere, isThere}
 use Rattle.round.specs.State as thing
 use Rattle.rules.specs.Instructions.{Status, TERM, COOP, CONT, Event, signal, term, Instruction, nothing, await, join, awaitN, joinN}
@@ -30,10 +30,6 @@ pub values-numbers : (e : ℕ) (l : List (ℕ × ℤ)) → numbersWith e l ≡ v
 unfolding numbersWith valuesFrom
 values-numbers e [] = refl
 values-numbers e ((f, v) ∷ l) = rw (values-numbers e l)
-
-first-or-second : (a b : Bool) → (a || b) ≡ true → (a ≡ true) ⊎ ((a ≡ false) × (b ≡ true))
-first-or-second true b h = inl refl
-first-or-second false b h = inr (refl, h)
 
 module _ (s : State) (ms : Marks) where
   signal-there : (e : ℕ) → isThere s (thing.signal e) ≡ isPresent (signal e) (view s ms)
