@@ -3,7 +3,7 @@
 -- holds of a round.
 use Prim.Native.Nat.{ℕ, _<_}
 use mathlib.Core.Path.{_≡_, refl, _∙_}
-use mathlib.Core.Bool.{false}
+use mathlib.Core.Bool.{Bool, false}
 use mathlib.Core.List.{List, [], _++_}
 use lib.IntN.{ℤ}
 use Rattle.layout.specs.Verdicts.{accepted}
@@ -12,7 +12,7 @@ use Rattle.book.specs.Accepted.{Accepted}
 use Rattle.game.specs.declared.Game.{Game}
 use Rattle.game.specs.Game.{routineAt, Sized}
 use Rattle.fitting.specs.Fits.{Fits}
-use Rattle.round.specs.State.{State, Happening}
+use Rattle.round.specs.State.{State, withMoves, Happening}
 use Rattle.round.specs.History.{Among}
 use Rattle.round.specs.Actions.{atStart}
 use Rattle.round.specs.Rounds.{again, mostPasses, listedIn, turn, pass, instant, round, historyOf}
@@ -35,11 +35,9 @@ module _ (book : List ℕ) (a : Accepted book) where
   abbrev Keeps : State → List Happening → State → Type 0
   Keeps s told u = Kept s u
 
-  same-keeps : (s : State) → Keeps s [] s
-  same-keeps s = record { listed = refl; suspended = λ r. refl; few = λ h. h }
-
-  again-keeps : (s : State) → Keeps s [] (again s)
-  again-keeps s = record { listed = refl; suspended = λ r. refl; few = λ h. h }
+  -- other flags, or the same
+  flags-keep : (s : State) {moved eoi : Bool} → Kept s (withMoves s moved eoi)
+  flags-keep s = record { listed = refl; suspended = λ r. refl; few = λ h. h }
 
   keeps-both : (s u v : State) (b c : List Happening) → Keeps s b u → Keeps u c v → Keeps s [] v
   keeps-both s u v b c one two =
@@ -57,14 +55,14 @@ module _ (book : List ℕ) (a : Accepted book) where
   pub pass-keeps :
       (rs : List ℕ) → All (λ r. r < routinesOf book) rs → (s : State) → Sound book s →
       Sound book (pass book rs s .state) × Kept s (pass book rs s .state)
-  pass-keeps = pass-along Keeps same-keeps keeps-both book (Sound book) (λ r. r < routinesOf book) (turn-sound book a) turn-keeps
+  pass-keeps = pass-along Keeps (λ s. flags-keep s) keeps-both book (Sound book) (λ r. r < routinesOf book) (turn-sound book a) turn-keeps
 
   pub instant-keeps :
       (n : ℕ) (rs : List ℕ) → All (λ r. r < routinesOf book) rs → (s : State) → Sound book s →
       Sound book (instant book n rs s .played .state) × Kept s (instant book n rs s .played .state)
   instant-keeps =
-      instant-along Keeps same-keeps keeps-both book (Sound book) (λ r. r < routinesOf book) (turn-sound book a) turn-keeps again-sound
-      again-keeps
+      instant-along Keeps (λ s. flags-keep s) keeps-both book (Sound book) (λ r. r < routinesOf book) (turn-sound book a) turn-keeps
+      again-sound (λ s. flags-keep s)
 
   module _ (g : Game) (z : Sized g) (f : Fits book g) where
     below : All (λ r. r < routinesOf book) (listedIn g)

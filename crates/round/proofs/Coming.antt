@@ -2,12 +2,13 @@
 -- the flag says whether a signal was given. It holds of each step, by what the step comes to, and of one after the other.
 use Prim.Native.Nat.{ℕ, _<_, _≤_}
 use mathlib.Core.Path.{_≡_, refl, sym, _∙_, ap}
-use mathlib.Core.Bool.{true, false, true≢false}
+use mathlib.Core.Bool.{true, false}
 use mathlib.Core.List.{List, [], _∷_, _++_}
 use mathlib.Core.Logic.{inl, inr}
 use native.Mathlib.Omega.{arith}
 use native.Mathlib.Decide.{decLt}
 use lib.ListN.{length}
+use Rattle.numbers.proofs.Tests.{clash}
 use Rattle.kinds.specs.declared.Counts.{Counts}
 use Rattle.layout.specs.Layout.{mostSignals, countsOf}
 use Rattle.book.specs.Book.{routineSteps}
@@ -21,10 +22,10 @@ use Rattle.round.specs.Rounds.{ticks, ticksOf}
 use Rattle.round.specs.Demand.{givesSignal, endsRoutine, Comes}
 use Rattle.round.proofs.Acts.{Right, Says}
 use Rattle.round.proofs.Stepping.{ticks-along}
-use Rattle.round.proofs.Effects.{Untouched, untouched-same, untouched-then, effect-untouched, Ungiven, ungiven-same, effect-ungiven}
+use Rattle.round.proofs.Effects.{Untouched, untouched-same, untouched-then, effect-untouched, Ungiven, ungiven, effect-ungiven}
 use Rattle.round.proofs.Effects.{same-things, Gave, give, give-number}
-use Rattle.round.proofs.Histories.{many-append, stops-none, in-either, given-by-signals, end-ends}
-pub use Rattle.round.proofs.Histories.{somewhere-append, none-told, isGiven}
+use Rattle.round.proofs.Histories.{many-append, none-told, stops-none, somewhere-append, in-either, isGiven, given-by-signals}
+use Rattle.round.proofs.Histories.{end-ends}
 
 -- state u comes of state s, with this told between them
 pub record Carries (s : State) (told : List Happening) (u : State) : Type 0 where
@@ -53,7 +54,7 @@ carries-none told none a b =
       present = ap length (b .present);
       keeps = λ t h. same-things a b t ∙ h;
       brings = λ l t g h k. absurd (none-told givesSignal (Comes t) (given-by-signals g) told none k);
-      came = λ t h k. absurd (true≢false (sym k ∙ same-things a b t ∙ h));
+      came = λ t h k. clash k (same-things a b t ∙ h);
       few = λ h. sym (b .tooMany) ∙ h;
       unmoved = λ h. b .moved;
       moved = λ h. absurd (omega arith);
@@ -61,7 +62,7 @@ carries-none told none a b =
 
 carries-same : (s : State) → Carries s [] s
 unfolding howMany
-carries-same s = carries-none [] refl untouched-same ungiven-same
+carries-same s = carries-none [] refl untouched-same ungiven
 
 carries-then : (s u v : State) (a b : List Happening) → Carries s a u → Carries u b v → Carries s (a ++ b) v
 carries-then s u v a b c d =
@@ -140,4 +141,4 @@ module _ (counts : Counts) (r : ℕ) (steps : List ℕ) (fewSignals : counts .si
   pub ticks-carry : (n : ℕ) (x : Position) (s : State) → Carries s (ticks n counts r steps x s .told) (ticks n counts r steps x s .state)
   ticks-carry =
       ticks-along counts r steps Carries carries-same carries-then goes-carries
-      (λ x s how y told stops. carries-none told (stops-none givesSignal refl (λ t. refl) stops) untouched-same ungiven-same)
+      (λ x s how y told stops. carries-none told (stops-none givesSignal refl (λ t. refl) stops) untouched-same ungiven)

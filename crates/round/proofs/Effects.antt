@@ -1,24 +1,24 @@
 -- What a step's effect does to the things that a try asks for, to the flags, and to where each routine stands. By cases on the effect: one
 -- that gives no signal touches none of them, and one that gives makes its signal and its number there, and nothing else, and takes nothing
 -- away.
-use Prim.Native.Nat.{ℕ, zero, suc, _+_, _<_, _≤_}
+use Prim.Native.Nat.{ℕ, _+_, _<_, _≤_}
 use mathlib.Core.Path.{_≡_, refl, sym, subst, _∙_, ap}
-use mathlib.Core.Bool.{Bool, true, false, true≢false}
+use mathlib.Core.Bool.{Bool, true, false}
 use mathlib.Core.List.{List, [], _∷_, _++_}
 use native.Mathlib.Nat.{le-trans}
 use native.Mathlib.Decide.{ℕ-discrete}
 use native.Mathlib.Omega.{arith}
 use borrow.Author.Tests.{le-leb, leb-true, leb-false, eq-eqb, ne-eqb}
 use lib.Dec.{eqb, leb, ltb}
-use lib.ListN.{length, getD, set, length-set, length-append}
+use lib.ListN.{length, getD, length-set, length-append}
 use lib.IntN.{ℤ}
 use lib.Seq.{getD-set-same, getD-set-other}
 use Rattle.numbers.specs.Choice.{if_then_else_}
-use Rattle.numbers.proofs.Tests.{by-test}
+use Rattle.numbers.proofs.Tests.{clash, by-test}
 use Rattle.game.specs.declared.Game.{Game}
 use Rattle.game.specs.Game.{blank, routineAt, withFlags, withRoutine}
 use Rattle.game.specs.Game as stage
-use Rattle.orders.proofs.Stores.{same-set}
+use Rattle.orders.proofs.Stores.{entry-set, same-set}
 use Rattle.round.specs.declared.Effect.{Effect}
 use Rattle.round.specs.declared.Effect.the-variants.{Nothing, Mark, Put, Add, Give, GiveNumber, Start, Stop, Suspend, Resume}
 use Rattle.round.specs.State.{State, withGame, withNumbers, Thing, signal, end, number, gave, numbersWith, numbersOf}
@@ -27,8 +27,7 @@ use Rattle.round.specs.Actions.{positionOf}
 use Rattle.round.specs.Ticks.{mostNumbers, given, effectOn}
 use Rattle.round.specs.Demand.{Comes}
 use Rattle.round.proofs.Acts.{isGiving}
-use Rattle.round.proofs.Standings.{SameStanding, standing-then, SameStandings}
-pub use Rattle.round.proofs.Standings.{same-standing}
+use Rattle.round.proofs.Standings.{SameStanding, same-standing, standing-then, SameStandings}
 
 -- what no effect touches
 pub record Untouched (s u : State) : Type 0 where
@@ -104,24 +103,22 @@ pub record Ungiven (s u : State) : Type 0 where
   pub tooMany : u .tooMany ≡ s .tooMany
   pub moved : u .moved ≡ s .moved
 
-game-ungiven : (s : State) (g : Game) → Ungiven s (withGame s g)
-game-ungiven s g = record { present = refl; numbers = refl; tooMany = refl; moved = refl }
-
-pub ungiven-same : {s : State} → Ungiven s s
-ungiven-same = record { present = refl; numbers = refl; tooMany = refl; moved = refl }
+-- another game, or the same
+pub ungiven : {s : State} {g : Game} → Ungiven s (withGame s g)
+ungiven = record { present = refl; numbers = refl; tooMany = refl; moved = refl }
 
 pub effect-ungiven : (s : State) (e : Effect) → isGiving e ≡ false → Ungiven s (effectOn e s)
 unfolding effectOn
-effect-ungiven s Nothing h = ungiven-same
-effect-ungiven s (Mark n) h = ungiven-same
-effect-ungiven s (Put c v) h = game-ungiven s _
-effect-ungiven s (Add c v) h = game-ungiven s _
-effect-ungiven s (Give e) h = absurd (true≢false h)
-effect-ungiven s (GiveNumber e v) h = absurd (true≢false h)
-effect-ungiven s (Start t) h = game-ungiven s _
-effect-ungiven s (Stop t) h = game-ungiven s _
-effect-ungiven s (Suspend t) h = game-ungiven s _
-effect-ungiven s (Resume t) h = game-ungiven s _
+effect-ungiven s Nothing h = ungiven
+effect-ungiven s (Mark n) h = ungiven
+effect-ungiven s (Put c v) h = ungiven
+effect-ungiven s (Add c v) h = ungiven
+effect-ungiven s (Give e) h = clash refl h
+effect-ungiven s (GiveNumber e v) h = clash refl h
+effect-ungiven s (Start t) h = ungiven
+effect-ungiven s (Stop t) h = ungiven
+effect-ungiven s (Suspend t) h = ungiven
+effect-ungiven s (Resume t) h = ungiven
 
 -- a routine's end is there by its stage and its end signal alone
 pub same-end :
@@ -136,14 +133,6 @@ unfolding isThere
 same-things a b (signal e) = ap (λ l. getD l e false) (b .present)
 same-things {s} {u} a b (end r) = same-end s u r (ap (λ n. eqb n stage.ended) (a .standings r .stage)) (a .endSignals)
 same-things a b (number e k) = ap (λ l. leb k (length (numbersWith e l))) (b .numbers)
-
--- a flag that is set stays set where another one is
-set-keeps : (l : List Bool) (i j : ℕ) → getD l j false ≡ true → getD (set l i true) j false ≡ true
-set-keeps [] i j h = h
-set-keeps (x ∷ l) zero zero h = refl
-set-keeps (x ∷ l) zero (suc j) h = h
-set-keeps (x ∷ l) (suc i) zero h = h
-set-keeps (x ∷ l) (suc i) (suc j) h = set-keeps l i j h
 
 numbers-append : (e : ℕ) (l m : List (ℕ × ℤ)) → numbersWith e (l ++ m) ≡ numbersWith e l ++ numbersWith e m
 unfolding numbersWith
@@ -183,7 +172,7 @@ module _ (s : State) (e : ℕ) where
       }
     where
       kept : (t : Thing) → isThere s t ≡ true → isThere (withNumbers (given s e) l over) t ≡ true
-      kept (signal f) h = set-keeps (s .present) e f h
+      kept (signal f) h = entry-set (λ b. b ≡ true) (s .present) e true false f (λ at. refl) h
       kept (end r) h = h
       kept (number f j) h = le-leb j _ (le-trans (leb-true j _ h) (more f))
 
@@ -191,9 +180,9 @@ module _ (s : State) (e : ℕ) where
       comes (signal f) h there =
           elim (ℕ-discrete f e) [
             | yes m ↦ subst (λ i. Comes (signal i) (gave e k)) (sym m) Comes.signalGiven
-            | no n ↦ absurd (true≢false (sym there ∙ getD-set-other (s .present) e f true false n ∙ h))
+            | no n ↦ clash there (getD-set-other (s .present) e f true false n ∙ h)
           ]
-      comes (end r) h there = absurd (true≢false (sym there ∙ h))
+      comes (end r) h there = clash there h
       comes (number f j) h there =
           let (m, n) = new f j (leb-false j _ h) (leb-true j _ there) in
           subst (λ i. Comes (number i j) (gave e k)) (sym m) (subst (λ i. Comes (number e i) (gave e k)) (sym n) Comes.numberGiven)
@@ -209,7 +198,7 @@ module _ (s : State) (e : ℕ) where
       (λ h.
       gave-with _ _ _ (λ f. rw (numbers-append, length-append) (omega arith))
       (λ f j l m. next f j l (rw (numbers-append, length-append) at m)) (λ h. (rw (numbers-append, length-append) one, h)))
-      (λ h. gave-with _ _ _ (λ f. omega arith) (λ f j l m. absurd (omega arith)) (λ h. absurd (true≢false h)))
+      (λ h. gave-with _ _ _ (λ f. omega arith) (λ f j l m. absurd (omega arith)) (λ h. clash refl h))
     where
       one : length (numbersOf s e) + 1 ≤ length (numbersOf s e) + length (numbersWith e ((e, v) ∷ []))
       one = rw (eq-eqb e e refl) (omega arith)

@@ -3,7 +3,7 @@
 -- those in stage 3 behind: a turn's last step alone may tell an end, and it does where the turn leaves its routine in stage 3.
 use Prim.Native.Nat.{ℕ, _+_, _<_}
 use mathlib.Core.Path.{_≡_, refl, sym, ap, _∙_}
-use mathlib.Core.Bool.{Bool, true, false, _&&_, true≢false, and-true, and-false}
+use mathlib.Core.Bool.{Bool, true, false, _&&_, and-true, and-false}
 use mathlib.Core.List.{List, [], _∷_, _++_}
 use mathlib.Core.Logic.{_↔_, inl, inr, _≢_}
 use native.Mathlib.Omega.{arith}
@@ -11,7 +11,7 @@ use borrow.Author.Tests.{eq-eqb, ne-eqb, eqb-true}
 use lib.Dec.{eqb}
 use lib.ListN.{length}
 use Rattle.numbers.specs.Choice.{if_then_else_}
-use Rattle.numbers.proofs.Tests.{by-test}
+use Rattle.numbers.proofs.Tests.{clash, by-test}
 use Rattle.kinds.specs.declared.Counts.{Counts}
 use Rattle.layout.specs.Layout.{routinesOf}
 use Rattle.book.specs.Accepted.{Accepted}
@@ -25,7 +25,7 @@ use Rattle.round.specs.declared.Position.{Position}
 use Rattle.round.specs.State.{State, Happening, gave, ended, missing, past, marked, completed}
 use Rattle.round.specs.History.{howMany, Somewhere, Among}
 use Rattle.round.specs.Actions.{kept, atStart}
-use Rattle.round.specs.Rounds.{stageAfter, again, listedIn, ticksOf, turn, round, historyOf}
+use Rattle.round.specs.Rounds.{stageAfter, listedIn, ticksOf, turn, round, historyOf}
 use Rattle.round.specs.Demand.{endsRoutine}
 use Rattle.round.proofs.Acts.{Stops, ends, rests, misses, continues}
 use Rattle.round.proofs.Counting.{sumOver, others-sum, one}
@@ -109,19 +109,19 @@ endsOf q (completed r p) = false
 
 end-alone : (q : ℕ) (h : Happening) → endsRoutine h ≡ false → endsOf q h ≡ false
 end-alone q (gave e k) n = refl
-end-alone q (ended r) n = absurd (true≢false n)
+end-alone q (ended r) n = clash refl n
 end-alone q (missing r p t) n = refl
 end-alone q (past r p t) n = refl
 end-alone q (marked r m) n = refl
 end-alone q (completed r p) n = refl
 
 is-end-of : (q : ℕ) (h : Happening) → endsOf q h ≡ true → h ≡ ended q
-is-end-of q (gave e k) n = absurd (true≢false (sym n))
+is-end-of q (gave e k) n = clash n refl
 is-end-of q (ended r) n = ap ended (eqb-true r q n)
-is-end-of q (missing r p t) n = absurd (true≢false (sym n))
-is-end-of q (past r p t) n = absurd (true≢false (sym n))
-is-end-of q (marked r m) n = absurd (true≢false (sym n))
-is-end-of q (completed r p) n = absurd (true≢false (sym n))
+is-end-of q (missing r p t) n = clash n refl
+is-end-of q (past r p t) n = clash n refl
+is-end-of q (marked r m) n = clash n refl
+is-end-of q (completed r p) n = clash n refl
 
 -- routine r counts if it is in stage 3 and its end passes a test
 abbrev counted : (Happening → Bool) → State → ℕ → ℕ
@@ -174,14 +174,10 @@ module _ (book : List ℕ) (a : Accepted book) (g : Game) (z : Sized g) (f : Fit
         λ q n. ap (λ k. one (test (ended q) && eqb k stage.ended)) (turn-turned book a r s l ok .standings .others q n .stage) in
         own-sum (counted test s) (counted test u) r others _ (own-told r s l) (listedIn g) distinct inside
 
-    claim-again : (s : State) → Claim s [] (again s)
-    unfolding howMany
-    claim-again s = omega arith
-
     -- at the start none of them is in stage 3
     round-told : howMany test (historyOf book g) ≡ total back
     round-told =
-        let told = round-along book a g z f Claim claim-none claim-both claim-turn claim-again in
+        let told = round-along book a g z f Claim claim-none claim-both claim-turn claim-none in
         let none =
         none-sum (counted test (atStart g)) (listedIn g)
         (λ r h. rw (listed-stage book g a z f r (among-listed book g a z f r h), and-false (test (ended r)))) in
