@@ -3,7 +3,7 @@
 -- none elsewhere, and a step that halts the turn of none, the same holds of a turn and of a round.
 use Prim.Native.Nat.{ℕ, _+_, _≤_}
 use mathlib.Core.Path.{_≡_, refl, sym, _∙_}
-use mathlib.Core.Bool.{Bool, true, false, not, true≢false}
+use mathlib.Core.Bool.{Bool, true, false, not}
 use mathlib.Core.List.{List, [], _∷_, _++_}
 use native.Mathlib.Decide.{ℕ-discrete}
 use native.Mathlib.Omega.{arith}
@@ -11,7 +11,7 @@ use borrow.Author.Tests.{ne-eqb}
 use lib.Dec.{eqb}
 use lib.ListN.{length}
 use Rattle.numbers.specs.Choice.{if_then_else_}
-use Rattle.numbers.proofs.Tests.{neither}
+use Rattle.numbers.proofs.Tests.{clash, neither}
 use Rattle.layout.specs.Layout.{countsOf}
 use Rattle.book.specs.Book.{routineSteps}
 use Rattle.game.specs.declared.Game.{Game}
@@ -69,7 +69,7 @@ tells-neither : (op : ℕ) → isTelling op ≡ false → (isSignalOp op ≡ fal
 tells-neither op = neither (isSignalOp op) (eqb op opMark)
 
 no-mark : (op : ℕ) → isSignalOp op ≡ true → eqb op opMark ≡ false
-no-mark op h = elim (ℕ-discrete op opMark) [ yes e ↦ absurd (true≢false (sym (rw e at h))) | no n ↦ ne-eqb op opMark n ]
+no-mark op h = elim (ℕ-discrete op opMark) [ yes e ↦ clash (rw e at h) refl | no n ↦ ne-eqb op opMark n ]
 
 module _ (book : List ℕ) where
   -- as many things that pass the test are told as steps of the set completed

@@ -2,7 +2,7 @@
 -- and what is missing there still. The turn's steps leave its routine where it stands, and the turn's end writes that routine alone.
 use Prim.Native.Nat.{ℕ, _<_}
 use mathlib.Core.Path.{_≡_, refl, sym, ap, _∙_}
-use mathlib.Core.Bool.{Bool, true, false, _||_, not, true≢false, Bool·not-not}
+use mathlib.Core.Bool.{Bool, true, false, _||_, not, Bool·not-not}
 use mathlib.Core.List.{List, [], _∷_}
 use native.Mathlib.Decide.{decLt}
 use native.Mathlib.Omega.{arith}
@@ -10,7 +10,7 @@ use borrow.Author.Tests.{eqb-true}
 use lib.Dec.{eqb}
 use lib.ListN.{length, List·getD-eq-default}
 use lib.Seq.{getD-set-same}
-use Rattle.numbers.proofs.Tests.{by-test}
+use Rattle.numbers.proofs.Tests.{clash, by-test}
 use Rattle.game.specs.declared.Routine.{Routine}
 use Rattle.game.specs.Game.{continuing, ended, blank, routineAt, withRoutine}
 use Rattle.orders.proofs.Stores.{same-set}
@@ -27,7 +27,7 @@ use Rattle.round.proofs.TurnLaws.{isGoing}
 -- a routine that takes a turn is not suspended, and in stage 1
 pub going-parts :
     (suspended : Bool) (stage : ℕ) → not (suspended || not (eqb stage continuing)) ≡ true → (suspended ≡ false) × (stage ≡ continuing)
-going-parts true stage h = absurd (true≢false (sym h))
+going-parts true stage h = clash h refl
 going-parts false stage h = (refl, eqb-true stage continuing (sym (Bool·not-not _) ∙ h))
 
 -- the stage in which a turn that is to be continued leaves its routine is the one in which it takes turns
@@ -62,10 +62,10 @@ module _ (book : List ℕ) (r : ℕ) (s : State) where
       by-test P (x .suspended || not (eqb (x .stage) continuing)) (λ h. over (ap not h)) (λ h. on (ap not h))
 
   pub turn-over : isGoing s r ≡ false → turn book r s ≡ passed s
-  turn-over h = turn-by (λ p. p ≡ passed s) (λ g. refl) (λ g. absurd (true≢false (sym g ∙ h)))
+  turn-over h = turn-by (λ p. p ≡ passed s) (λ g. refl) (λ g. clash g h)
 
   pub turn-taken : isGoing s r ≡ true → turn book r s ≡ taken r (ticksOf book r s)
-  turn-taken h = turn-by (λ p. p ≡ taken r (ticksOf book r s)) (λ g. absurd (true≢false (sym h ∙ g))) (λ g. refl)
+  turn-taken h = turn-by (λ p. p ≡ taken r (ticksOf book r s)) (λ g. clash h g) (λ g. refl)
 
 -- the same things are there where routine r stands elsewhere, and has ended if it had
 pub placed-there :

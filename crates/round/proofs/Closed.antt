@@ -1,11 +1,12 @@
 -- A pass that begins with eoi set gives no signal and ends no routine. A pass begins so only behind one that did not move, and the
 -- theory of passes says what follows such a one; every state in which a pass begins is sound.
 use Prim.Native.Nat.{ℕ}
-use mathlib.Core.Path.{_≡_, sym}
-use mathlib.Core.Bool.{true, true≢false}
+use mathlib.Core.Path.{_≡_, refl}
+use mathlib.Core.Bool.{true}
 use mathlib.Core.List.{List}
 use native.Mathlib.Omega.{arith}
 use borrow.Author.Tests.{not-true}
+use Rattle.numbers.proofs.Tests.{clash}
 use Rattle.book.specs.Accepted.{Accepted}
 use Rattle.game.specs.declared.Game.{Game}
 use Rattle.game.specs.Game.{Sized}
@@ -31,7 +32,7 @@ module _ (book : List ℕ) (a : Accepted book) (g : Game) (z : Sized g) (f : Fit
 
   pub closes : {s : State} → Begins book g s → s .eoi ≡ true → Closes book g s
   unfolding atStart
-  closes Begins.first e = absurd (true≢false (sym e))
+  closes Begins.first e = clash e refl
   closes (Begins.next {s} b h) e =
       let below = at-start-listed book g (a .laid .counts) z f in
       let (none, done) = closing-pass (turn-laws book a) (listedIn g) below s (begins-sound b) (not-true _ e) in

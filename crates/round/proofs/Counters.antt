@@ -2,7 +2,7 @@
 -- the rows of the table of kinds, and of one stretch after another; no number is lost in a round.
 use Prim.Native.Nat.{ℕ}
 use mathlib.Core.Path.{_≡_, refl, sym, subst, ap, _∙_}
-use mathlib.Core.Bool.{false, _&&_, not, true≢false}
+use mathlib.Core.Bool.{false, _&&_, not}
 use mathlib.Core.List.{List, [], _∷_, _++_}
 use lib.Dec.{eqb, ltb}
 use lib.ListN.{length}
@@ -20,7 +20,7 @@ use Rattle.book.specs.Accepted.{Accepted}
 use Rattle.game.specs.declared.Game.{Game}
 use Rattle.game.specs.Game.{Sized}
 use Rattle.fitting.specs.Fits.{Fits}
-use Rattle.numbers.proofs.Tests.{by-test}
+use Rattle.numbers.proofs.Tests.{clash, by-test}
 use Rattle.round.specs.declared.Position.{Position}
 use Rattle.round.specs.declared.Effect.{Effect}
 use Rattle.round.specs.declared.Effect.the-variants.{Nothing, Put}
@@ -110,7 +110,7 @@ module _ (book : List ℕ) where
         and (λ few. (few, refl))
         and (λ few. (few, refl))
         and by-test (λ u. u .tooMany ≡ false → (s .tooMany ≡ false) × (contentsOf u ≡ madeBy 5 a b n (contentsOf s)))
-        (ltb (length (s .numbers)) mostNumbers) (λ room few. (few, refl)) (λ full few. absurd (true≢false few))
+        (ltb (length (s .numbers)) mostNumbers) (λ room few. (few, refl)) (λ full few. clash refl few)
         and (λ few. (few, refl))
         and by-test (λ act. Agrees 7 a b n act []) (eqb (countAt x (countOf n)) 0) (λ over few. (few, refl)) (λ some few. (few, refl))
         and tries-agrees 8 a b n (signal a) Nothing (fresh (x .place)) (λ few. (few, refl))

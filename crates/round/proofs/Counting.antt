@@ -2,7 +2,7 @@
 -- such a count counts. By induction on how many places are looked at.
 use Prim.Native.Nat.{ℕ, zero, suc, _+_, _<_, _≤_}
 use mathlib.Core.Path.{_≡_, refl, sym}
-use mathlib.Core.Bool.{Bool, true, false, true≢false}
+use mathlib.Core.Bool.{Bool, true, false}
 use mathlib.Core.List.{List, [], _∷_}
 use mathlib.Core.Logic.{_↔_, inl, inr, _≢_}
 use native.Mathlib.Decide.{ℕ-discrete}
@@ -10,6 +10,7 @@ use native.Mathlib.Nat.{add-zero, add-suc}
 use native.Mathlib.Numerals.{add-one}
 use native.Mathlib.Omega.{arith}
 use Rattle.numbers.specs.Choice.{if_then_else_}
+use Rattle.numbers.proofs.Tests.{clash}
 use Rattle.round.specs.History.{countBelow, Among}
 
 -- a sum over some numbers
@@ -36,7 +37,7 @@ one t = if t then 1 else 0
 
 one-le : (a b : Bool) → (a ≡ true → b ≡ true) → one a ≤ one b
 one-le true true up = omega arith
-one-le true false up = absurd (true≢false (sym (up refl)))
+one-le true false up = clash (up refl) refl
 one-le false true up = omega arith
 one-le false false up = omega arith
 
@@ -90,4 +91,4 @@ module _ (test : ℕ → Bool) (Such : ℕ → Type 0) where
     where
       next : (t : Bool) {k m : ℕ} → Counted Such k m → (t ≡ true) ↔ Such k → Counted Such (suc k) (m + (if t then 1 else 0))
       next true c h = rw add-one (Counted.such c (h .0 refl))
-      next false c h = rw add-zero (Counted.other c (λ x. true≢false (sym (h .1 x))))
+      next false c h = rw add-zero (Counted.other c (λ x. clash (h .1 x) refl))

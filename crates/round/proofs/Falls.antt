@@ -2,19 +2,19 @@
 -- by induction over the parse: a while's end leads back to its test, and every way through its body halts. The height of the tree of
 -- the ways from a place is the place's rank, which falls along every edge.
 use Prim.Native.Nat.{ℕ, suc, _+_, _<_, _≤_, max}
-use mathlib.Core.Path.{_≡_, refl, sym, ap₂, _∙_, subst}
-use mathlib.Core.Bool.{Bool, true, false, _||_, true≢false}
+use mathlib.Core.Path.{_≡_, refl, sym, ap, ap₂, subst}
+use mathlib.Core.Bool.{Bool, true, false, _||_}
 use mathlib.Core.List.{List}
 use mathlib.Core.Logic.{_⊎_, inl, inr}
 use native.Mathlib.Decide.{decLt, decLe}
 use native.Mathlib.Numerals.{add-one}
 use native.Mathlib.Omega.{arith}
 use Rattle.numbers.specs.Choice.{if_then_else_}
-use Rattle.numbers.proofs.Tests.{and-both}
+use Rattle.numbers.proofs.Tests.{clash, and-both}
 use Rattle.kinds.specs.declared.Counts.{Counts}
 use Rattle.kinds.specs.declared.Form.{Form}
 use Rattle.kinds.specs.declared.Form.the-variants.{Plain, Pausing}
-use Rattle.blocks.specs.Blocks.{View, beyond, stands, deepest}
+use Rattle.blocks.specs.Blocks.{View, stands, deepest}
 use Rattle.blocks.specs.Parse.{ParsedBlock, empty, more, ParsedStep, plain, pausing, ifOnly, ifElse, loop}
 use Rattle.blocks.specs.Parse.{blockPauses, stepPauses, EachWhileOf, WhilesPause}
 use Rattle.blocks.proofs.Views.{view-beyond, standing-below}
@@ -62,15 +62,15 @@ module _ (counts : Counts) (steps : List ℕ) where
   -- from the first place of a block or a step: it pauses, or every way from behind it comes to a halt
   mutual
     from-block : {d p e : ℕ} (b : ParsedBlock at d p e) → WhilesPause at b → (blockPauses at b ≡ true) ⊎ Ends e → Ends p
-    from-block empty w (inl t) = absurd (true≢false (sym t))
+    from-block empty w (inl t) = clash t refl
     from-block empty w (inr k) = k
     from-block (more s b) w k = from-step s (w .0) (first-pauses (stepPauses at s) (blockPauses at b) (from-block b (w .1)) k)
 
     from-step : {d p e : ℕ} (s : ParsedStep at d p e) → WhilesPauseIn s → (stepPauses at s ≡ true) ⊎ Ends e → Ends p
-    from-step (plain h) w (inl t) = absurd (true≢false (sym t))
+    from-step (plain h) w (inl t) = clash t refl
     from-step (plain h) w (inr k) = at-plain h k
     from-step (pausing h) w k = at-pausing h
-    from-step (ifOnly h b e) w (inl t) = absurd (true≢false (sym t))
+    from-step (ifOnly h b e) w (inl t) = clash t refl
     from-step (ifOnly h b e) w (inr k) =
         let last = by-form e refl (λ t. rw (from-if counts steps h b) k) in
         by-form h refl (by-either (past-partner counts steps b (inr e)) (from-block b w (inr last)) k)
@@ -83,7 +83,7 @@ module _ (counts : Counts) (steps : List ℕ) where
         let last = by-form e refl (λ t. rw (from-else counts steps h b m c) k) in
         by-form h refl
         (by-either (past-partner counts steps b (inl m)) (from-block b (w .0) (inr first)) (from-block c (w .1) (inr last)))
-    from-step (loop h b e) w (inl t) = absurd (true≢false (sym t))
+    from-step (loop h b e) w (inl t) = clash t refl
     from-step (loop h b e) w (inr k) =
         by-form h refl (by-either (past-partner counts steps b (inr e)) (from-block b (w .1) (inl (w .0))) k)
 
@@ -127,20 +127,20 @@ module _ (counts : Counts) (steps : List ℕ) where
   height-same : {p : ℕ} (a b : Ends p) → height a ≡ height b
   unfolding height
   height-same (halts l h) (halts m k) = refl
-  height-same (halts l h) (goes m n on) = absurd (true≢false (sym h ∙ n))
-  height-same (goes l n on) (halts m h) = absurd (true≢false (sym h ∙ n))
+  height-same (halts l h) (goes m n on) = clash h n
+  height-same (goes l n on) (halts m h) = clash h n
   height-same (goes l n on) (goes m o to) =
       ap₂ (λ (i j : ℕ). suc (max i j)) (height-same (on true) (to true)) (height-same (on false) (to false))
 
   -- a place that goes on is higher than each that it leads to
   height-falls : {p : ℕ} (a : Ends p) (t : Bool) (b : Ends (nextBy steps (at p) p t)) → isHalt (at p) ≡ false → height b < height a
   unfolding height
-  height-falls (halts l h) t b n = absurd (true≢false (sym h ∙ n))
+  height-falls (halts l h) t b n = clash h n
   height-falls (goes l n on) true b m = omega (arith, height-same b (on true))
   height-falls (goes l n on) false b m = omega (arith, height-same b (on false))
 
   next-ends : {p : ℕ} → Ends p → isHalt (at p) ≡ false → (t : Bool) → Ends (nextBy steps (at p) p t)
-  next-ends (halts l h) n t = absurd (true≢false (sym h ∙ n))
+  next-ends (halts l h) n t = clash h n
   next-ends (goes l h on) n t = on t
 
   -- a turn goes on only where a step stands
@@ -148,9 +148,7 @@ module _ (counts : Counts) (steps : List ℕ) where
   going-below p n =
       elim (decLt p (sizeOf steps)) [
         | yes l ↦ l
-        | no m ↦
-            let e : at p ≡ beyond = view-beyond counts steps (sizeOf steps) p (omega arith) in
-            absurd (true≢false (rw e at n))
+        | no m ↦ clash (ap isHalt (view-beyond counts steps (sizeOf steps) p (omega arith))) n
       ]
 
   module _ (b : ParsedBlock (formAt counts steps) deepest 0 (sizeOf steps)) (w : WhilesPause (formAt counts steps) b) where

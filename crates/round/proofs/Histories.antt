@@ -1,13 +1,14 @@
 -- What is told: how many of the things that happened pass a test, what is somewhere among them, and what comes by them. By induction on
 -- what is told, and for what one step tells by the table of Acts.antt.
 use Prim.Native.Nat.{ℕ, _+_}
-use mathlib.Core.Path.{_≡_, refl, sym}
-use mathlib.Core.Bool.{Bool, true, false, true≢false}
+use mathlib.Core.Path.{_≡_, refl}
+use mathlib.Core.Bool.{Bool, true, false}
 use mathlib.Core.List.{List, [], _∷_, _++_}
 use mathlib.Core.Logic.{_⊎_, inl, inr}
 use native.Mathlib.Omega.{arith}
 use lib.IntN.{ℤ}
 use Rattle.numbers.specs.Choice.{if_then_else_}
+use Rattle.numbers.proofs.Tests.{clash}
 use Rattle.kinds.specs.declared.Counts.{Counts}
 use Rattle.round.specs.declared.Ending.{Ending}
 use Rattle.round.specs.declared.Position.{Position}
@@ -100,7 +101,7 @@ isGiven (number e k) = true
 -- it comes with a signal given, and a routine's end with an end
 pub given-by-signals : {t : Thing} → isGiven t ≡ true → (h : Happening) → Comes t h → givesSignal h ≡ true
 given-by-signals g h signalGiven = refl
-given-by-signals g h routineEnded = absurd (true≢false (sym g))
+given-by-signals g h routineEnded = clash g refl
 given-by-signals g h numberGiven = refl
 
 pub end-ends : {r : ℕ} (h : Happening) → Comes (end r) h → endsRoutine h ≡ true

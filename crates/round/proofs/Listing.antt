@@ -2,7 +2,7 @@
 -- the book are appended, from none on, is right: its entries are those routines, and nothing stands behind its length.
 use Prim.Native.Nat.{ℕ, zero, suc, _+_, _<_, _≤_}
 use mathlib.Core.Path.{_≡_, refl, sym, _∙_, ap, subst}
-use mathlib.Core.Bool.{Bool, true, true≢false}
+use mathlib.Core.Bool.{Bool, true}
 use mathlib.Core.List.{List, [], _∷_, _++_}
 use mathlib.Core.Logic.{_⊎_, inl, inr, ⊎-elim}
 use native.Mathlib.Nat.{add-zero}
@@ -11,7 +11,7 @@ use native.Mathlib.Decide.{ℕ-discrete}
 use borrow.Author.Tests.{lt-ltb}
 use lib.ListN.{length, getD, length-set, getD-replicate}
 use lib.Seq.{getD-set-other}
-use Rattle.numbers.proofs.Tests.{by-test}
+use Rattle.numbers.proofs.Tests.{clash, by-test}
 use Rattle.game.specs.declared.Line.{Line}
 use Rattle.game.specs.Lines.{mostEntries, empty, itemAt, entriesOf, appended}
 use Rattle.fitting.specs.Fits.{In}
@@ -55,7 +55,7 @@ module _ (test : ℕ → Bool) where
   unfolding kept
   among-kept r [] t h = absurd h
   among-kept r (q ∷ qs) t (inl e) =
-      by-test (Among r) (test q) (λ p. inl e) (λ p. absurd (true≢false (sym t ∙ ap test e ∙ p)))
+      by-test (Among r) (test q) (λ p. inl e) (λ p. clash t (ap test e ∙ p))
   among-kept r (q ∷ qs) t (inr h) =
       let rest = among-kept r qs t h in by-test (Among r) (test q) (λ p. inr rest) (λ p. rest)
 

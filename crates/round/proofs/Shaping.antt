@@ -1,9 +1,10 @@
 -- A turn's steps that are enough have a last one that halts the turn, and the others went on. What the last one tells depends on how it
 -- halts the turn, by the table of Acts.antt.
 use Prim.Native.Nat.{ℕ}
-use mathlib.Core.Path.{_≡_, refl, sym, _∙_}
-use mathlib.Core.Bool.{true, false, true≢false}
+use mathlib.Core.Path.{_≡_, refl}
+use mathlib.Core.Bool.{true, false}
 use mathlib.Core.List.{List, [], _∷_, _++_, append-assoc}
+use Rattle.numbers.proofs.Tests.{clash}
 use Rattle.kinds.specs.declared.Counts.{Counts}
 use Rattle.kinds.specs.Steps.{stepAt}
 use Rattle.round.specs.declared.Ending.{Ending}
@@ -39,9 +40,9 @@ module _ (counts : Counts) (r : ℕ) (steps : List ℕ) where
       isDone (took how) ≡ false →
       (t : Thing) × Asks x (stepAt counts steps (x .place)) t × (isThere s t ≡ false) × (s .eoi ≡ false) × (how ≡ Continued) × (y ≡ x) ×
       (told ≡ missing r (x .place) t ∷ [])
-  stops-continued ends d = absurd (true≢false d)
-  stops-continued rests d = absurd (true≢false d)
-  stops-continued (misses a m c) d = absurd (true≢false d)
+  stops-continued ends d = clash refl d
+  stops-continued rests d = clash refl d
+  stops-continued (misses a m c) d = clash refl d
   stops-continued (continues {t} a m c) d = (t, a, m, c, refl, refl, refl)
 
   -- any other finds nothing missing, but where the round is being closed
@@ -51,8 +52,8 @@ module _ (counts : Counts) (r : ℕ) (steps : List ℕ) where
   unfolding howMany
   stops-calm ends d e = refl
   stops-calm rests d e = refl
-  stops-calm (misses a m c) d e = absurd (true≢false (sym c ∙ e))
-  stops-calm (continues a m c) d e = absurd (true≢false (sym d))
+  stops-calm (misses a m c) d e = clash c e
+  stops-calm (continues a m c) d e = clash d refl
 
   pub shaped : (n : ℕ) (x : Position) (s : State) → InTime n counts r steps x s → Shape counts r steps (ticks n counts r steps x s)
   unfolding howMany

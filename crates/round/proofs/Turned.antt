@@ -3,7 +3,7 @@
 -- is there.
 use Prim.Native.Nat.{ℕ, _<_}
 use mathlib.Core.Path.{_≡_, refl, sym, subst, _∙_, ap}
-use mathlib.Core.Bool.{true, false, true≢false, Bool-discrete, or-true}
+use mathlib.Core.Bool.{true, false, or-true}
 use mathlib.Core.List.{List, [], _∷_, _++_}
 use mathlib.Core.Logic.{_≢_, inl, inr}
 use native.Mathlib.Omega.{arith}
@@ -11,7 +11,7 @@ use native.Mathlib.Decide.{ℕ-discrete}
 use lib.Dec.{eqb}
 use lib.ListN.{length}
 use lib.Seq.{getD-set-same, getD-set-other}
-use Rattle.numbers.proofs.Tests.{not-true-false}
+use Rattle.numbers.proofs.Tests.{clash, by-flag}
 use Rattle.kinds.specs.declared.Counts.{Counts}
 use Rattle.layout.specs.Layout.{mostSignals, routinesOf, countsOf}
 use Rattle.book.specs.Book.{routineSteps}
@@ -46,7 +46,7 @@ passed-over =
       eoi = refl;
       keeps = λ t h. h;
       brings = λ t h k. absurd k;
-      came = λ t h k. absurd (true≢false (sym k ∙ h));
+      came = λ t h k. clash k h;
       few = λ h. h;
       unmoved = λ h. refl;
       moved = λ h. absurd (omega arith);
@@ -141,13 +141,13 @@ module _
         -- the routine's end alone is new behind the steps
         new : (t : Thing) → isThere u t ≡ false → isThere last t ≡ true → Somewhere (Comes t) told
         unfolding isThere
-        new (signal e) h k = absurd (true≢false (sym k ∙ h))
+        new (signal e) h k = clash k h
         new (end q) h k =
             elim (ℕ-discrete q r) [
               | yes e ↦ rw (e, history) (in-second (Comes (end r)) before (ended r ∷ []) (inl Comes.routineEnded))
-              | no n ↦ absurd (true≢false (sym k ∙ others-there q n ∙ h))
+              | no n ↦ clash k (others-there q n ∙ h)
             ]
-        new (number e i) h k = absurd (true≢false (sym k ∙ h))
+        new (number e i) h k = clash k h
 
         some-move : 0 < moves told
         unfolding howMany
@@ -160,9 +160,7 @@ module _
               eoi = a .eoi;
               keeps = λ t h. stays t (c .keeps t h);
               brings = brought;
-              came =
-                  λ t h k.
-                  elim (Bool-discrete (isThere u t) true) [ yes e ↦ c .came t h e | no n ↦ new t (not-true-false _ n) k ];
+              came = λ t h k. by-flag (isThere u t) (c .came t h) (λ e. new t e k);
               few = c .few;
               unmoved = λ h. absurd (omega (arith, some-move));
               moved = λ h. refl;
