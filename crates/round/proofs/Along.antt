@@ -12,10 +12,10 @@ use Rattle.round.specs.History.{Among}
 use Rattle.round.specs.Actions.{atStart}
 use Rattle.round.specs.Rounds.{Played, followedBy, allDone, again, mostPasses, listedIn, turn, pass, Round, instant, round, historyOf}
 
--- P holds of each of some routines
-abbrev pub All : (ℕ → Type 0) → List ℕ → Type 0
+-- P holds of each of some
+abbrev pub All : {A : Type 0} → (A → Type 0) → List A → Type 0
 All P [] = Unit {0}
-All P (r ∷ rs) = P r × All P rs
+All P (x ∷ xs) = P x × All P xs
 
 pub among-all : (P : ℕ → Type 0) (r : ℕ) (rs : List ℕ) → All P rs → Among r rs → P r
 among-all P r [] a h = absurd h

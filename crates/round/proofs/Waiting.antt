@@ -96,8 +96,8 @@ module _ {book : List ℕ} {Listed : ℕ → Type 0} {Ok : State → Type 0} (la
   was-going r s l k g =
       by-flag (isGoing s r) (λ h. h) (λ h. clash g (ap (λ (p : Played). isGoing (p .state) r) (laws .over r s l k h) ∙ h))
 
-  -- behind a pass that is such, a claim holds of each routine of it and of each of which it held, if a turn that is such brings it about for
-  -- its own routine and keeps it for the others
+  -- behind a pass that is such, a claim holds of each routine of it and of each of which it held, if a turn that is such brings it about
+  -- for its own routine and keeps it for the others
   module _
       (Claim : State → ℕ → Type 0) (Such : Played → Type 0) (parts : (p q : Played) → Such (followedBy p q) → Such p × Such q)
       (own : (r : ℕ) (s : State) → Listed r → Ok s → Such (turn book r s) → Claim (turn book r s .state) r)
