@@ -1,7 +1,8 @@
 -- The eight actions on routines and their lists, by what one change of some routines does. A field that depends on no stage changes by
 -- actions 4, 5 and 8 alone, so each routine stands where it stood, and the playing order is those that stay listed, all of the book.
-use Prim.Native.Nat.{ℕ, _<_}
+use Prim.Native.Nat.{ℕ, _<_, _≤_}
 use mathlib.Core.Path.{_≡_, refl, sym, _∙_, ap}
+use mathlib.Core.Bool.{Bool}
 use mathlib.Core.List.{List, [], _∷_, map, map-map}
 use mathlib.Core.Logic.{inl, inr}
 use native.Mathlib.Omega.{arith}
@@ -12,13 +13,14 @@ use Rattle.layout.specs.Layout.{routinesOf}
 use Rattle.book.specs.Accepted.{CountsInRange}
 use Rattle.game.specs.declared.Routine.{Routine}
 use Rattle.game.specs.declared.Game.{Game}
-use Rattle.game.specs.Lines.{empty, entriesOf, appended}
+use Rattle.game.specs.Lines.{mostEntries, entriesOf, appended}
 use Rattle.game.specs.Game.{blank, routineAt, Sized}
 use Rattle.fitting.specs.Fits.{Fits}
 use Rattle.orders.proofs.Stores.{same-at}
 use Rattle.round.specs.Actions.{kept, each, positionOf, inStage1, inStage4, getsStopped, staysListed, withoutOrders, atStart}
 use Rattle.round.proofs.Along.{All}
-use Rattle.round.proofs.Entries.{all-kept, kept-short, appended-entries, joined-below, joined-short}
+use Rattle.round.proofs.Entries.{all-kept, kept-short, joined-below, joined-short}
+use Rattle.round.proofs.Listing.{entries-same}
 use Rattle.round.specs.History.{Among}
 
 -- what a change of one routine keeps, the same change of several keeps
@@ -74,45 +76,55 @@ module _ (change : Routine → Routine) where
     each-given (q ∷ qs) xs r l (inr h) =
         let x = change (getD xs q blank) in each-given qs (set xs q x) r (rw length-set l) h
 
--- actions 1, 3 and 6; rs are those listed once action 1 is done
-module _ (xs : List Routine) (starts : List ℕ) where
-  abbrev pub started : List Routine
-  started = each inStage1 starts xs
+-- the eight actions of a game
+module _ (g : Game) where
+  -- those to start, and those listed once action 1 is done
+  abbrev pub startsOf : List ℕ
+  startsOf = entriesOf (g .starting)
 
-  abbrev pub stopping : List ℕ → List ℕ
-  stopping rs = kept (λ r. getsStopped (getD started r blank)) rs
+  abbrev pub joinedOf : List ℕ
+  joinedOf = entriesOf (appended (g .listed) startsOf)
 
-  abbrev pub order : List ℕ → List ℕ
-  order rs = kept (λ r. staysListed (getD started r blank)) rs
+  -- the routines once action 1 is done
+  abbrev pub first : List Routine
+  first = each inStage1 startsOf (g .routines)
 
-  abbrev pub after : List ℕ → List Routine
-  after rs = map withoutOrders (each inStage1 (order rs) (each inStage4 (stopping rs) started))
+  -- which of those listed then stop, and which stay listed
+  abbrev pub stops : ℕ → Bool
+  stops r = getsStopped (getD first r blank)
+
+  abbrev pub stays : ℕ → Bool
+  stays r = staysListed (getD first r blank)
+
+  abbrev pub leaving : List ℕ
+  leaving = kept stops joinedOf
+
+  abbrev pub staying : List ℕ
+  staying = kept stays joinedOf
+
+  -- the routines once action 3 is done, and once action 6 is
+  abbrev pub halted : List Routine
+  halted = each inStage4 leaving first
+
+  abbrev pub last : List Routine
+  last = each inStage1 staying halted
 
   -- what depends on no stage changes by actions 4, 5 and 8 alone
   pub field-same :
-      {B : Type 0} (f : Routine → B) (rs : List ℕ) →
+      {B : Type 0} (f : Routine → B) →
       ((x : Routine) → f (withoutOrders (inStage1 x)) ≡ f (withoutOrders x)) →
       ((x : Routine) → f (withoutOrders (inStage4 x)) ≡ f (withoutOrders x)) →
-      map f (after rs) ≡ map (λ x. f (withoutOrders x)) xs
-  field-same {B} f rs one four =
-      let halted = each inStage4 (stopping rs) started in
+      map f (map withoutOrders last) ≡ map (λ x. f (withoutOrders x)) (g .routines)
+  field-same {B} f one four =
       let h : Routine → B = λ x. f (withoutOrders x) in
-      map-map f withoutOrders (each inStage1 (order rs) halted) ∙
-      each-keeps h inStage1 one (order rs) halted ∙
-      each-keeps h inStage4 four (stopping rs) started ∙
-      each-keeps h inStage1 one starts xs
+      map-map f withoutOrders last ∙
+      each-keeps h inStage1 one staying halted ∙
+      each-keeps h inStage4 four leaving first ∙
+      each-keeps h inStage1 one startsOf (g .routines)
 
--- those to start, and those listed once action 1 is done
-abbrev pub startsOf : Game → List ℕ
-startsOf g = entriesOf (g .starting)
-
-abbrev pub joinedOf : Game → List ℕ
-joinedOf g = entriesOf (appended (g .listed) (startsOf g))
-
-module _ (g : Game) where
   positions-same : map positionOf (atStart g .game .routines) ≡ map positionOf (g .routines)
   unfolding atStart
-  positions-same = field-same (g .routines) (startsOf g) positionOf (joinedOf g) (λ x. refl) (λ x. refl)
+  positions-same = field-same positionOf (λ x. refl) (λ x. refl)
 
   pub at-start-routines : length (atStart g .game .routines) ≡ length (g .routines)
   at-start-routines =
@@ -123,14 +135,15 @@ module _ (g : Game) where
   at-start-positions = same-at positionOf (atStart g .game .routines) (g .routines) blank positions-same
 
 module _ (book : List ℕ) (g : Game) (range : CountsInRange book) (z : Sized g) (f : Fits book g) where
-  pub at-start-entries : entriesOf (atStart g .game .listed) ≡ order (g .routines) (startsOf g) (joinedOf g)
+  pub kept-below : (test : ℕ → Bool) → All (λ r. r < routinesOf book) (kept test (joinedOf g))
+  kept-below test = all-kept (λ r. r < routinesOf book) test (joinedOf g) (joined-below book g range z f)
+
+  pub staying-short : length (staying g) ≤ mostEntries
+  staying-short = omega (arith, kept-short (stays g) (joinedOf g), joined-short book g range z f)
+
+  pub at-start-entries : entriesOf (atStart g .game .listed) ≡ staying g
   unfolding atStart
-  at-start-entries =
-      let short = kept-short (λ r. staysListed (getD (started (g .routines) (startsOf g)) r blank)) (joinedOf g) in
-      appended-entries empty (order (g .routines) (startsOf g) (joinedOf g)) refl (omega (arith, short, joined-short book g range z f))
+  at-start-entries = entries-same (staying g) staying-short
 
   pub at-start-listed : All (λ r. r < routinesOf book) (entriesOf (atStart g .game .listed))
-  at-start-listed =
-      rw at-start-entries
-      (all-kept (λ r. r < routinesOf book) (λ r. staysListed (getD (started (g .routines) (startsOf g)) r blank)) (joinedOf g)
-      (joined-below book g range z f))
+  at-start-listed = rw at-start-entries (kept-below (stays g))

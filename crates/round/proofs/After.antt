@@ -20,8 +20,7 @@ use Rattle.round.specs.Answers.{answer}
 use Rattle.round.proofs.Telling.{accepted-played}
 use Rattle.round.proofs.Along.{All, all-among, pass-along, instant-along}
 use Rattle.round.proofs.Sound.{Sound}
-use Rattle.round.proofs.Actions.{at-start-listed}
-use Rattle.round.proofs.Starting.{at-start-sound}
+use Rattle.round.proofs.Starting.{listed-below, at-start-sound}
 use Rattle.round.proofs.Staying.{turn-sound, again-sound}
 use Rattle.round.proofs.Turned.{turn-turned}
 
@@ -66,7 +65,7 @@ module _ (book : List ℕ) (a : Accepted book) where
 
   module _ (g : Game) (z : Sized g) (f : Fits book g) where
     below : All (λ r. r < routinesOf book) (listedIn g)
-    below = at-start-listed book g (a .laid .counts) z f
+    below = listed-below book g a z f
 
     -- what holds of each turn of a listed routine in a sound state holds of a round
     pub round-along :

@@ -16,8 +16,7 @@ use Rattle.round.specs.Actions.{atStart}
 use Rattle.round.specs.Rounds.{listedIn}
 use Rattle.round.specs.Again.{Begins, Closes}
 use Rattle.round.proofs.Sound.{Sound}
-use Rattle.round.proofs.Actions.{at-start-listed}
-use Rattle.round.proofs.Starting.{at-start-sound}
+use Rattle.round.proofs.Starting.{listed-below, at-start-sound}
 use Rattle.round.proofs.Staying.{again-sound}
 use Rattle.round.proofs.Waiting.{pass-stays}
 use Rattle.round.proofs.Closing.{closing-pass}
@@ -27,13 +26,13 @@ module _ (book : List ℕ) (a : Accepted book) (g : Game) (z : Sized g) (f : Fit
   begins-sound : {s : State} → Begins book g s → Sound book s
   begins-sound Begins.first = at-start-sound book g a z f
   begins-sound (Begins.next {s} b h) =
-      let below = at-start-listed book g (a .laid .counts) z f in
+      let below = listed-below book g a z f in
       again-sound _ (pass-stays (turn-laws book a) (listedIn g) below s (begins-sound b))
 
   pub closes : {s : State} → Begins book g s → s .eoi ≡ true → Closes book g s
   unfolding atStart
   closes Begins.first e = clash e refl
   closes (Begins.next {s} b h) e =
-      let below = at-start-listed book g (a .laid .counts) z f in
+      let below = listed-below book g a z f in
       let (none, done) = closing-pass (turn-laws book a) (listedIn g) below s (begins-sound b) (not-true _ e) in
       record { noSignal = omega arith; noEnd = omega arith; done = done }

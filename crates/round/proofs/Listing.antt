@@ -137,7 +137,7 @@ module _ (rs : List ℕ) (short : length rs ≤ mostEntries) where
   pub appended-sized : length (appended empty rs .items) ≡ mostEntries
   appended-sized = filled .sized
 
-  entries-same : entriesOf (appended empty rs) ≡ rs
+  pub entries-same : entriesOf (appended empty rs) ≡ rs
   entries-same = appended-entries empty rs refl (omega arith)
 
   pub appended-right : {routines : ℕ} → All (λ r. r < routines) rs → Distinct rs → LineRight (appended empty rs) routines

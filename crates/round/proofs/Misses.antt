@@ -20,7 +20,7 @@ use Rattle.round.specs.Rounds.{Turn, passedOver, took, Played, followedB
 use Rattle.round.specs.Whole.{isMiss, missesOf}
 use Rattle.round.proofs.Acts.{Stops, ends, rests, misses, continues}
 use Rattle.round.proofs.Along.{instant-by}
-use Rattle.round.proofs.Actions.{at-start-listed}
+use Rattle.round.proofs.Starting.{listed-below}
 use Rattle.round.proofs.Histories.{many-append}
 use Rattle.round.proofs.AfterTurn.{turn-by}
 use Rattle.round.proofs.Outcomes.{turn-shape}
@@ -64,4 +64,4 @@ module _ (book : List ℕ) (a : Accepted book) where
   unfolding round howMany missesOf
   misses-told g z f =
       instant-by (λ s p. TellsMisses p) (λ s. refl) (λ s. misses-both) book (λ r. r < routinesOf book) turn-misses (λ s p h. h) mostPasses
-      (listedIn g) (at-start-listed book g (a .laid .counts) z f) (atStart g)
+      (listedIn g) (listed-below book g a z f) (atStart g)

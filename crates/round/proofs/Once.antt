@@ -17,8 +17,7 @@ use Rattle.round.specs.Answers.{opMark, marksIn}
 use Rattle.round.specs.Demand.{isSignalStep, givesSignal}
 use Rattle.round.specs.Completed.{completes, theStep, isMarkStep, isAddition, CompletedOnce}
 use Rattle.round.proofs.Along.{Distinct}
-use Rattle.round.proofs.Actions.{at-start-listed}
-use Rattle.round.proofs.Starting.{listed-distinct}
+use Rattle.round.proofs.Starting.{listed-distinct, listed-below}
 use Rattle.round.proofs.Paying.{leftOf, turn-pays}
 use Rattle.round.proofs.PayingPasses.{round-pays}
 use Rattle.round.proofs.Accounts.{numbers-few, signals-completed, marks-completed}
@@ -32,7 +31,7 @@ module _ (book : List ℕ) (a : Accepted book) (g : Game) (z : Sized g) (f : Fit
 
   each-once : (set : ℕ → ℕ → Bool) → howMany (completes set) (historyOf book g) ≤ stepsIn book set (listedIn g)
   each-once set =
-      let below = at-start-listed book g (a .laid .counts) z f in
+      let below = listed-below book g a z f in
       let paid = round-pays book a (completes set) (leftOf book a set) (turn-pays book a set) g z f in
       omega (arith, total-left book a set (listedIn g) below (atStart g))
 
@@ -44,7 +43,7 @@ module _ (book : List ℕ) (a : Accepted book) (g : Game) (z : Sized g) (f : Fit
 
   pub completed-once : CompletedOnce book g
   completed-once =
-      let below = at-start-listed book g (a .laid .counts) z f in
+      let below = listed-below book g a z f in
       record {
         once = each-once;
         neverTwice = λ r p. omega (arith, each-once (theStep r p), one-of-distinct r p book (listedIn g) distinct);

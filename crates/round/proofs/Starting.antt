@@ -20,13 +20,14 @@ use Rattle.fitting.proofs.Lists.{LineRight}
 use Rattle.fitting.proofs.Routines.{UnderWay}
 use Rattle.fitting.proofs.Decides.{fit-lists}
 use Rattle.round.specs.declared.Position.{Position}
-use Rattle.round.specs.Actions.{kept, each, inStage1, inStage4, getsStopped, staysListed, withoutOrders, atStart}
+use Rattle.round.specs.Actions.{kept, inStage1, inStage4, withoutOrders, atStart}
 use Rattle.round.proofs.Histories.{in-first, in-second}
 use Rattle.round.proofs.Along.{All, among-all, Distinct}
 use Rattle.round.proofs.Sound.{Sound}
-use Rattle.round.proofs.Entries.{all-kept, kept-short, entries-below, apart, joined-entries, joined-below, joined-short}
-use Rattle.round.proofs.Actions.{each-length, each-other, each-given, started, stopping, order, startsOf, joinedOf}
-use Rattle.round.proofs.Actions.{at-start-routines, at-start-positions, at-start-entries}
+use Rattle.round.proofs.Entries.{entries-below, apart, joined-entries}
+use Rattle.round.proofs.Actions.{each-length, each-other, each-given, startsOf, joinedOf, first, stops, stays, leaving, staying}
+use Rattle.round.proofs.Actions.{halted, last, at-start-routines, at-start-positions, kept-below, staying-short, at-start-entries}
+use Rattle.round.proofs.Actions.{at-start-listed}
 use Rattle.round.proofs.Listing.{among-or, distinct-joined, among-kept, distinct-kept}
 use Rattle.round.proofs.Listing.{in-among, among-in, entries-distinct, appended-sized, appended-right}
 use Rattle.round.specs.History.{Among}
@@ -45,36 +46,14 @@ stops-or-stays false k (inl e) = inr (rw e)
 stops-or-stays false k (inr e) = inr (rw e)
 
 module _ (g : Game) where
-  -- the routines once action 1 is done, those listed then that stop and that stay listed, and the routines once action 6 is done
-  abbrev first : List Routine
-  first = started (g .routines) (startsOf g)
-
-  abbrev stops : ℕ → Bool
-  stops r = getsStopped (getD first r blank)
-
-  abbrev stays : ℕ → Bool
-  stays r = staysListed (getD first r blank)
-
-  abbrev leaving : List ℕ
-  leaving = stopping (g .routines) (startsOf g) (joinedOf g)
-
-  abbrev staying : List ℕ
-  staying = order (g .routines) (startsOf g) (joinedOf g)
-
-  abbrev halted : List Routine
-  halted = each inStage4 leaving first
-
-  abbrev last : List Routine
-  last = each inStage1 staying halted
-
-  routine-behind : (r : ℕ) → routineAt (atStart g .game) r ≡ withoutOrders (getD last r blank)
+  routine-behind : (r : ℕ) → routineAt (atStart g .game) r ≡ withoutOrders (getD (last g) r blank)
   unfolding atStart
-  routine-behind r = List·getD-map withoutOrders last r blank
+  routine-behind r = List·getD-map withoutOrders (last g) r blank
 
   abbrev stageBehind : ℕ → ℕ
   stageBehind r = routineAt (atStart g .game) r .stage
 
-  stage-behind : (r : ℕ) → stageBehind r ≡ getD last r blank .stage
+  stage-behind : (r : ℕ) → stageBehind r ≡ getD (last g) r blank .stage
   stage-behind r = ap (λ (x : Routine). x .stage) (routine-behind r)
 
 module _ (book : List ℕ) (g : Game) (range : CountsInRange book) (z : Sized g) (f : Fits book g) where
@@ -140,7 +119,7 @@ module _ (book : List ℕ) (g : Game) (range : CountsInRange book) (z : Sized g)
       let Below : ℕ → Type 0 = λ q. q < routinesOf book in
       let none : (rs : List ℕ) → All Below rs → Among r rs → ⊥ = λ rs below h. omega (arith, among-all Below r rs below h) in
       let none-kept : (test : ℕ → Bool) → Among r (kept test (joinedOf g)) → ⊥ =
-      λ test. none (kept test (joinedOf g)) (all-kept Below test (joinedOf g) (joined-below book g range z f))
+      λ test. none (kept test (joinedOf g)) (kept-below book g range z f test)
       in
       let starts = entries-below (g .starting) (fit-lists book g f .1) (z .starting) in
       routine-behind g r ∙
@@ -150,14 +129,10 @@ module _ (book : List ℕ) (g : Game) (range : CountsInRange book) (z : Sized g)
       each-other inStage1 (startsOf g) (g .routines) r (none (startsOf g) starts) ∙
       f .routinesBeyond r l m)
 
-  staying-short : length (staying g) ≤ mostEntries
-  staying-short = omega (arith, kept-short (stays g) (joinedOf g), joined-short book g range z f)
-
   listed-right : LineRight (atStart g .game .listed) (routinesOf book)
   unfolding atStart
   listed-right =
-      appended-right (staying g) staying-short
-      (all-kept (λ q. q < routinesOf book) (stays g) (joinedOf g) (joined-below book g range z f))
+      appended-right (staying g) (staying-short book g range z f) (kept-below book g range z f (stays g))
       (distinct-kept (stays g) (joinedOf g) joined-distinct)
 
   at-start-sized : Sized (atStart g .game)
@@ -166,7 +141,7 @@ module _ (book : List ℕ) (g : Game) (range : CountsInRange book) (z : Sized g)
       record {
         routines = at-start-routines g ∙ z .routines;
         counters = z .counters;
-        listed = appended-sized (staying g) staying-short;
+        listed = appended-sized (staying g) (staying-short book g range z f);
         starting = refl;
         broadcast = length-replicate mostSignals false;
       }
@@ -178,6 +153,9 @@ module _ (book : List ℕ) (g : Game) (a : Accepted book) (z : Sized g) (f : Fit
   pub listed-distinct : Distinct (entriesOf (atStart g .game .listed))
   listed-distinct =
       entries-distinct (atStart g .game .listed) (listed-right book g range z f) (at-start-sized book g range z f .listed)
+
+  pub listed-below : All (λ r. r < routinesOf book) (entriesOf (atStart g .game .listed))
+  listed-below = at-start-listed book g range z f
 
   -- in the playing order, and among its entries
   listed-among : (r : ℕ) → In (atStart g .game .listed) r → Among r (entriesOf (atStart g .game .listed))

@@ -2,17 +2,19 @@
 -- The tests on routines are those on their statuses, and a change that gives a stage gives its status.
 use Prim.Native.Nat.{ℕ}
 use mathlib.Core.Path.{_≡_, refl, sym, _∙_, ap, fun-ext}
-use mathlib.Core.Bool.{Bool, true, false, _&&_, _||_, not, true≢false, or-comm}
+use mathlib.Core.Bool.{Bool, true, false, _&&_, _||_, not, or-comm}
 use mathlib.Core.List.{List, [], _∷_, map, map-map, zipWith}
 use lib.ListN.{getD, set, List·getD-map}
 use lib.Seq.{getD-set-other}
 use Rattle.numbers.specs.Choice.{if_then_else_}
-use Rattle.numbers.proofs.Tests.{by-test}
+use Rattle.numbers.proofs.Tests.{clash, by-test}
 use Rattle.game.specs.declared.Routine.{Routine}
+use Rattle.game.specs.declared.Game.{Game}
 use Rattle.game.specs.Game.{blank}
 use Rattle.orders.proofs.Stores.{map-set, same-at}
-use Rattle.round.specs.Actions.{kept, each, inStage1, inStage4, getsStopped, staysListed, withoutOrders}
-use Rattle.round.proofs.Actions.{each-keeps, started, stopping, order, after, field-same}
+use Rattle.round.specs.Actions.{kept, each, inStage1, inStage4, withoutOrders}
+use Rattle.round.proofs.Actions.{each-keeps, startsOf, joinedOf, first, leaving, staying, halted, last, field-same}
+use Rattle.round.proofs.Actions as action
 use Rattle.rules.specs.Instructions.{CONT}
 use Rattle.rules.specs.Schedulers.{Stage, notStarted, is, stopped, has, isTerminated}
 use Rattle.rules.specs.Instants.{only, allAt, isUnderWay, noFlags}
@@ -71,16 +73,16 @@ untouched test k t h [] l = refl
 untouched test k t h (r ∷ rs) l =
     by-test (λ qs. getD (allAt k qs l) t notStarted ≡ getD l t notStarted) (test r)
     (λ e.
-    untouched test k t h rs (set l r k) ∙ getD-set-other l r t k notStarted (λ c. true≢false (sym e ∙ ap test (sym c) ∙ h)))
+    untouched test k t h rs (set l r k) ∙ getD-set-other l r t k notStarted (λ c. clash e (ap test (sym c) ∙ h)))
     (λ e. untouched test k t h rs l)
 
--- actions 1, 3 and 6 as the paper has them, and that those as defined are the same; rs are those listed once action 1 is done
-module _ (xs : List Routine) (starts : List ℕ) where
+-- actions 1, 3 and 6 as the paper has them, where rs are those listed once action 1 is done, and that those as defined are the same
+module _ (g : Game) where
   abbrev toStop : List Bool
-  toStop = map (λ x. x .stopping) xs
+  toStop = map (λ x. x .stopping) (g .routines)
 
   abbrev status₁ : List Stage
-  status₁ = allAt (is CONT) starts (map seen xs)
+  status₁ = allAt (is CONT) (startsOf g) (map seen (g .routines))
 
   abbrev stops : ℕ → Bool
   stops t = has toStop t && isUnderWay (getD status₁ t notStarted)
@@ -94,22 +96,24 @@ module _ (xs : List Routine) (starts : List ℕ) where
   abbrev pub actual₆ : List ℕ → List ℕ
   actual₆ rs = only (stays rs) (only (λ t. not (has toStop t)) rs)
 
-  started-status : map seen (started xs starts) ≡ status₁
-  started-status = each-at (is CONT) inStage1 (λ x. refl) starts xs
+  started-status : map seen (first g) ≡ status₁
+  started-status = each-at (is CONT) inStage1 (λ x. refl) (startsOf g) (g .routines)
 
-  started-at : (t : ℕ) → seen (getD (started xs starts) t blank) ≡ getD status₁ t notStarted
-  started-at t = sym (List·getD-map seen (started xs starts) t blank) ∙ ap (λ l. getD l t notStarted) started-status
+  started-at : (t : ℕ) → seen (getD (first g) t blank) ≡ getD status₁ t notStarted
+  started-at t = sym (List·getD-map seen (first g) t blank) ∙ ap (λ l. getD l t notStarted) started-status
 
-  started-stop : (t : ℕ) → getD (started xs starts) t blank .stopping ≡ has toStop t
+  started-stop : (t : ℕ) → getD (first g) t blank .stopping ≡ has toStop t
   started-stop t =
-      let same = each-keeps (λ x. x .stopping) inStage1 (λ x. refl) starts xs in
-      same-at (λ x. x .stopping) (started xs starts) xs blank same t ∙ sym (List·getD-map (λ x. x .stopping) xs t blank)
+      let same = each-keeps (λ x. x .stopping) inStage1 (λ x. refl) (startsOf g) (g .routines) in
+      same-at (λ x. x .stopping) (first g) (g .routines) blank same t ∙ sym (List·getD-map (λ x. x .stopping) (g .routines) t blank)
 
-  stopping-same : (rs : List ℕ) → stopping xs starts rs ≡ only stops rs
+  stopping-same : leaving g ≡ only stops (joinedOf g)
   stopping-same =
-      kept-only (λ r. getsStopped (getD (started xs starts) r blank)) stops (λ t.
-      let way = sym (under-way-stage (getD (started xs starts) t blank .stage)) ∙ ap isUnderWay (started-at t) in
+      kept-only (action.stops g) stops
+      (λ t.
+      let way = sym (under-way-stage (getD (first g) t blank .stage)) ∙ ap isUnderWay (started-at t) in
       λ i. started-stop t i && way i)
+      (joinedOf g)
 
   -- action 3 leaves the status of one that is not to stop
   not-stopped :
@@ -118,39 +122,40 @@ module _ (xs : List Routine) (starts : List ℕ) where
   not-stopped rs t true e = refl
   not-stopped rs t false e = ap (λ k. not (isTerminated k)) (sym (untouched stops stopped t (rw e) rs status₁))
 
-  pub order-same : (rs : List ℕ) → order xs starts rs ≡ actual₆ rs
-  order-same rs =
-      let agree : (t : ℕ) → staysListed (getD (started xs starts) t blank) ≡ (not (has toStop t) && stays rs t) =
+  pub order-same : staying g ≡ actual₆ (joinedOf g)
+  order-same =
+      let rs = joinedOf g in
+      let agree : (t : ℕ) → action.stays g t ≡ (not (has toStop t) && stays rs t) =
       λ t.
-      let end = sym (terminated-stage (getD (started xs starts) t blank .stage)) ∙ ap isTerminated (started-at t) in
+      let end = sym (terminated-stage (getD (first g) t blank .stage)) ∙ ap isTerminated (started-at t) in
       (λ i. not (started-stop t i) && not (end i)) ∙ not-stopped rs t (has toStop t) refl
       in
-      kept-only (λ r. staysListed (getD (started xs starts) r blank)) (λ t. not (has toStop t) && stays rs t) agree rs ∙
+      kept-only (action.stays g) (λ t. not (has toStop t) && stays rs t) agree rs ∙
       sym (only-twice (stays rs) (λ t. not (has toStop t)) rs)
 
-  pub status-same : (rs : List ℕ) → map seen (after xs starts rs) ≡ allAt (is CONT) (actual₆ rs) (status₃ rs)
-  status-same rs =
-      let halted = each inStage4 (stopping xs starts rs) (started xs starts) in
-      map-map seen withoutOrders (each inStage1 (order xs starts rs) halted) ∙
-      each-at (is CONT) inStage1 (λ x. refl) (order xs starts rs) halted ∙
-      ap (allAt (is CONT) (order xs starts rs)) (each-at stopped inStage4 (λ x. refl) (stopping xs starts rs) (started xs starts)) ∙
-      (λ i. allAt (is CONT) (order-same rs i) (allAt stopped (stopping-same rs i) (started-status i)))
+  pub status-same : map seen (map withoutOrders (last g)) ≡ allAt (is CONT) (actual₆ (joinedOf g)) (status₃ (joinedOf g))
+  status-same =
+      map-map seen withoutOrders (last g) ∙
+      each-at (is CONT) inStage1 (λ x. refl) (staying g) (halted g) ∙
+      ap (allAt (is CONT) (staying g)) (each-at stopped inStage4 (λ x. refl) (leaving g) (first g)) ∙
+      (λ i. allAt (is CONT) (order-same i) (allAt stopped (stopping-same i) (started-status i)))
 
   -- a flag of one of the three sets
   pub flag-cleared :
-      (flag : Routine → Bool) → ((x : Routine) → flag (withoutOrders x) ≡ false) → (rs : List ℕ) →
-      noFlags (map flag xs) ≡ map flag (after xs starts rs)
-  flag-cleared flag clear rs =
-      let same = field-same xs starts flag rs (λ x. clear (inStage1 x) ∙ sym (clear x)) (λ x. clear (inStage4 x) ∙ sym (clear x)) in
-      map-map (λ b. false) flag xs ∙ ap (λ h. map h xs) (fun-ext (λ x. sym (clear x))) ∙ sym same
+      (flag : Routine → Bool) → ((x : Routine) → flag (withoutOrders x) ≡ false) →
+      noFlags (map flag (g .routines)) ≡ map flag (map withoutOrders (last g))
+  flag-cleared flag clear =
+      let same = field-same g flag (λ x. clear (inStage1 x) ∙ sym (clear x)) (λ x. clear (inStage4 x) ∙ sym (clear x)) in
+      map-map (λ b. false) flag (g .routines) ∙ ap (λ h. map h (g .routines)) (fun-ext (λ x. sym (clear x))) ∙ sym same
 
   pub suspended-same :
-      (rs : List ℕ) →
+      let xs = g .routines in
       zipWith _||_ (zipWith (λ s r. s && not r) (map (λ x. x .suspended) xs) (map (λ x. x .resuming) xs)) (map (λ x. x .suspending) xs) ≡
-      map (λ x. x .suspended) (after xs starts rs)
-  suspended-same rs =
+      map (λ x. x .suspended) (map withoutOrders (last g))
+  suspended-same =
+      let xs = g .routines in
       ap (λ l. zipWith _||_ l (map (λ x. x .suspending) xs))
       (zip-maps (λ s r. s && not r) (λ x. x .suspended) (λ x. x .resuming) xs) ∙
       zip-maps _||_ (λ x. x .suspended && not (x .resuming)) (λ x. x .suspending) xs ∙
       ap (λ h. map h xs) (fun-ext (λ x. or-comm (x .suspended && not (x .resuming)) (x .suspending))) ∙
-      sym (field-same xs starts (λ x. x .suspended) rs (λ x. refl) (λ x. refl))
+      sym (field-same g (λ x. x .suspended) (λ x. refl) (λ x. refl))

@@ -12,7 +12,7 @@ use Rattle.fitting.specs.Fits.{Fits}
 use Rattle.round.specs.State.{State}
 use Rattle.round.specs.Actions.{atStart}
 use Rattle.round.proofs.Entries.{joined-entries}
-use Rattle.round.proofs.Actions.{startsOf, joinedOf, at-start-entries}
+use Rattle.round.proofs.Actions.{at-start-entries}
 use Rattle.rules.specs.Instructions.{CONT}
 use Rattle.rules.specs.Schedulers.{is}
 use Rattle.rules.specs.Instants.{allAt, chained, unmoved}
@@ -29,27 +29,22 @@ pub chains :
 unfolding chained view atStart
 chains book s ms range z f =
     let g = s .game in
-    let xs = g .routines in
-    let starts = startsOf g in
-    let rs = joinedOf g in
     let joined = sym (joined-entries book g range z f) in
-    let actual = ap (actual₆ xs starts) joined ∙ sym (order-same xs starts rs) ∙ sym (at-start-entries book g range z f) in
-    let status =
-    ap (λ rs. allAt (is CONT) (actual₆ xs starts rs) (status₃ xs starts rs)) joined ∙ sym (status-same xs starts rs)
-    in
+    let actual = ap (actual₆ g) joined ∙ sym (order-same g) ∙ sym (at-start-entries book g range z f) in
+    let status = ap (λ rs. allAt (is CONT) (actual₆ g rs) (status₃ g rs)) joined ∙ sym (status-same g) in
     let broadcast = none-same false (g .broadcast) ∙ ap (λ n. replicate n false) (z .broadcast) in
     λ i.
     record {
       actual = actual i;
-      current = record { events = g .broadcast; terms = ends-same xs i; values = []; eoi = false; move = false };
+      current = record { events = g .broadcast; terms = ends-same (g .routines) i; values = []; eoi = false; move = false };
       orders =
           record {
             toBroadcast = broadcast i;
             toStart = [];
-            toStop = flag-cleared xs starts (λ x. x .stopping) (λ x. refl) rs i;
-            toSuspend = flag-cleared xs starts (λ x. x .suspending) (λ x. refl) rs i;
-            toResume = flag-cleared xs starts (λ x. x .resuming) (λ x. refl) rs i;
+            toStop = flag-cleared g (λ x. x .stopping) (λ x. refl) i;
+            toSuspend = flag-cleared g (λ x. x .suspending) (λ x. refl) i;
+            toResume = flag-cleared g (λ x. x .resuming) (λ x. refl) i;
           };
-      threads = record { status = status i; susp = suspended-same xs starts rs i };
+      threads = record { status = status i; susp = suspended-same g i };
       env = record { counters = g .counters; marks = ms };
     }

@@ -2,7 +2,7 @@
 -- over the routines, and a start adds to a list that has room, since different routines are no more than there are.
 use Prim.Native.Nat.{ℕ, _<_, _≤_}
 use mathlib.Core.Path.{_≡_, refl, sym, ap, _∙_}
-use mathlib.Core.Bool.{Bool, true, false, _&&_, not, true≢false, false≢true}
+use mathlib.Core.Bool.{Bool, true, false, _&&_, not, false≢true}
 use mathlib.Core.List.{List, [], _∷_, _++_, map}
 use native.Mathlib.Omega.{arith}
 use borrow.Author.Tests.{not-true}
@@ -12,7 +12,7 @@ use lib.Seq.{map-set-same}
 use lib.IntN.{ℤ}
 use Rattle.numbers.specs.Choice.{if_then_else_}
 use Rattle.numbers.specs.declared.Sum.{Sum}
-use Rattle.numbers.proofs.Tests.{and-both, by-test}
+use Rattle.numbers.proofs.Tests.{clash, and-both, by-test}
 use Rattle.layout.specs.Layout.{mostRoutines}
 use Rattle.game.specs.declared.Routine.{Routine}
 use Rattle.game.specs.Lines.{isIn, pushed, entriesOf}
@@ -82,7 +82,7 @@ module _ (s : State) (ms : Marks) where
       by-test
       (λ (u : State). u .tooMany ≡ false → view u ms ≡ withValue e v (moved (withEvent (signal e) (view s ms))))
       (ltb (length (s .numbers)) mostNumbers)
-      (λ room none. refl) (λ full none. absurd (true≢false none))
+      (λ room none. refl) (λ full none. clash refl none)
       h
 
 -- routine t of a state gives way to another one

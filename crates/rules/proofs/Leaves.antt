@@ -2,7 +2,7 @@
 -- scheduler; where it may wait, by what a try comes to.
 use Prim.Native.Nat.{ℕ, suc, _+_, _-_, _<_, _≤_}
 use mathlib.Core.Path.{_≡_, refl, ap, _∙_}
-use mathlib.Core.Bool.{Bool, true, false, _&&_, not, true≢false}
+use mathlib.Core.Bool.{Bool, true, false, _&&_, not}
 use mathlib.Core.List.{List, [], _++_, append-nil}
 use mathlib.Core.Logic.{_≢_, _⊎_, inl, inr}
 use native.Mathlib.Omega.{arith}
@@ -12,7 +12,7 @@ use borrow.Author.Tests.{eqb-true, eqb-false}
 use lib.Dec.{eqb}
 use Rattle.numbers.specs.Numbers.{sumOf}
 use Rattle.numbers.proofs.Sums.{adds-up}
-use Rattle.numbers.proofs.Tests.{and-both, by-test}
+use Rattle.numbers.proofs.Tests.{clash, and-both, by-test}
 use Rattle.layout.specs.Layout.{mostRoutines}
 use Rattle.kinds.specs.declared.Kind.{Kind}
 use Rattle.kinds.specs.declared.Kind.the-variants as kind
@@ -54,8 +54,8 @@ abbrev Leaf : Form → Type 0
 Leaf f = (f ≡ Plain) ⊎ (f ≡ Pausing)
 
 no-leaf : {f : Form} {A : Type 0} → Leaf f → (f ≡ Plain → true ≡ false) → (f ≡ Pausing → true ≡ false) → A
-no-leaf (inl e) p q = absurd (true≢false (p e))
-no-leaf (inr e) p q = absurd (true≢false (q e))
+no-leaf (inl e) p q = clash refl (p e)
+no-leaf (inr e) p q = clash refl (q e)
 
 -- where a thing is missing, and not with its count over, the count is not over
 not-over : (a b : Bool) → (a && not b) ≡ false → b ≡ false → a ≡ false
