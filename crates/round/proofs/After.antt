@@ -24,6 +24,10 @@ use Rattle.round.proofs.Starting.{listed-below, at-start-sound}
 use Rattle.round.proofs.Staying.{turn-sound, again-sound}
 use Rattle.round.proofs.Turned.{turn-turned}
 
+-- the state behind a round
+abbrev pub back : List ℕ → Game → State
+back book g = round book g .played .state
+
 -- what a round keeps from state s to state u
 pub record Kept (s u : State) : Type 0 where
   pub listed : u .game .listed ≡ s .game .listed
@@ -73,7 +77,7 @@ module _ (book : List ℕ) (a : Accepted book) where
         ((s u v : State) (b c : List Happening) → Claim s b u → Claim u c v → Claim s (b ++ c) v) →
         ((r : ℕ) (s : State) → (r < routinesOf book) × Among r (listedIn g) → Sound book s →
         Claim s (turn book r s .told) (turn book r s .state)) →
-        ((s : State) → Claim s [] (again s)) → Claim (atStart g) (historyOf book g) (round book g .played .state)
+        ((s : State) → Claim s [] (again s)) → Claim (atStart g) (historyOf book g) (back book g)
     unfolding round
     round-along Claim none both turns agains =
         let L = listedIn g in
@@ -81,14 +85,14 @@ module _ (book : List ℕ) (a : Accepted book) where
         instant-along Claim none both book (Sound book) (λ r. Below r × Among r L) (λ r s l. turn-sound book a r s (l .0)) turns
         again-sound agains mostPasses L (all-among Below L below) (atStart g) (at-start-sound book g a z f) .1
 
-    pub round-keeps : Sound book (round book g .played .state) × Kept (atStart g) (round book g .played .state)
+    pub round-keeps : Sound book (back book g) × Kept (atStart g) (back book g)
     unfolding round
     round-keeps = instant-keeps mostPasses (listedIn g) below (atStart g) (at-start-sound book g a z f)
 
-    pub round-fits : Fits book (round book g .played .state .game)
+    pub round-fits : Fits book (back book g .game)
     round-fits = round-keeps .0 .fits
 
-    pub round-sized : Sized (round book g .played .state .game)
+    pub round-sized : Sized (back book g .game)
     round-sized = round-keeps .0 .sized
 
 -- the game of an accepted answer

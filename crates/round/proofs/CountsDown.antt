@@ -31,13 +31,14 @@ use Rattle.round.specs.Actions.{positionOf, atStart}
 use Rattle.round.specs.Jumps.{sizeOf}
 use Rattle.round.specs.Ticks.{begunAt, countAt, tickAt, tick, fresh}
 use Rattle.round.specs.Rounds.{Ticks, follow, ticks, mostTicks, stageAfter, took, Played, isDone, listedIn}
-use Rattle.round.specs.Rounds.{ticksOf, turn, round, historyOf}
+use Rattle.round.specs.Rounds.{ticksOf, turn, historyOf}
 use Rattle.round.specs.Timed.{hasThing, isPausing, TimedRound, CountsDown}
 use Rattle.round.proofs.Acts.{Asks}
 use Rattle.round.proofs.Timed.{timed-tick}
 use Rattle.round.proofs.TurnLaws.{isGoing}
 use Rattle.round.proofs.Sound.{Sound}
 use Rattle.round.proofs.Coming.{turn-untouched}
+use Rattle.round.proofs.After.{back}
 use Rattle.round.proofs.AfterTurn.{taken, turn-over, turn-taken, routine-after, position-after, after-going}
 use Rattle.round.proofs.Turned.{turn-turned}
 use Rattle.round.proofs.Again.{first-tick}
@@ -79,16 +80,13 @@ was-missing s u keeps (joinFor {r}) m = not-true-false _ (λ h. clash (keeps (en
 
 module _
     (book : List ℕ) (a : Accepted book) (g : Game) (z : Sized g) (f : Fits book g) (r : ℕ) (inside : Among r (listedIn g))
-    (awake : routineAt (atStart g .game) r .suspended ≡ false)
+    (unsuspended : routineAt (atStart g .game) r .suspended ≡ false)
   where
     abbrev steps : List ℕ
     steps = routineSteps book r
 
     abbrev x : Position
     x = standsFirst g r
-
-    abbrev back : State
-    back = round book g .played .state
 
     module _ {st : Step} {n : ℕ} (timed : Timed st n) (here : stepAt (countsOf book) steps (x .place) ≡ st) where
       abbrev k : ℕ
@@ -154,7 +152,7 @@ module _
                   inr (subst (λ (p : Played). OneLess (p .state)) (sym over) h)),
             )
 
-        counted-down : hasThing back timed ≡ false → OneLess back
+        counted-down : hasThing (back book g) timed ≡ false → OneLess (back book g)
         counted-down none =
             let all =
             round-of-one book a g z f r Claim
@@ -167,18 +165,18 @@ module _
               ⊎-elim (λ due. inl (due-standing g r s u standing due)) (λ h. inr (standing .stage ∙ h .0, standing .position ∙ h .1)),
             ))
             own in
-            ⊎-elim (λ due. absurd (due-last book a g z f r inside awake due)) (λ h. h)
-            (all none .1 (inl (due-first book a g z f r inside awake)))
+            ⊎-elim (λ due. absurd (due-last book a g z f r inside unsuspended due)) (λ h. h)
+            (all none .1 (inl (due-first book a g z f r inside unsuspended)))
 
-      gone-past : (k ≡ 0) ⊎ (hasThing back timed ≡ true) → Completes r (x .place) (historyOf book g)
+      gone-past : (k ≡ 0) ⊎ (hasThing (back book g) timed ≡ true) → Completes r (x .place) (historyOf book g)
       gone-past h = elim (ℕ-discrete k 0) [
-        | yes zero ↦ told-then book a g z f r inside awake _ (λ s due. goes-here s due (inl zero))
+        | yes zero ↦ told-then book a g z f r inside unsuspended _ (λ s due. goes-here s due (inl zero))
         | no some ↦
             elim h [
               | inl zero ↦ absurd (some zero)
               | inr found ↦
-                  let (t, asks, there) = asked x back timed (omega arith) found in
-                  thing-past book a g z f r inside awake t (subst (λ w. Asks x w t) (sym here) asks) there
+                  let (t, asks, there) = asked x (back book g) timed (omega arith) found in
+                  thing-past book a g z f r inside unsuspended t (subst (λ w. Asks x w t) (sym here) asks) there
             ]
       ]
 
@@ -186,4 +184,4 @@ module _
       timed-round = record { goesPast = gone-past; countsDown = counted-down }
 
 pub counts-down : (book : List ℕ) → Accepted book → (g : Game) → Sized g → Fits book g → CountsDown book g
-counts-down book a g z f r inside awake n timed = timed-round book a g z f r inside awake timed refl
+counts-down book a g z f r inside unsuspended n timed = timed-round book a g z f r inside unsuspended timed refl

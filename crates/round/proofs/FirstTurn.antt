@@ -20,12 +20,12 @@ use Rattle.round.specs.declared.Position.{Position}
 use Rattle.round.specs.State.{State, Thing, Happening, missing, completed, isThere}
 use Rattle.round.specs.History.{Somewhere, Among}
 use Rattle.round.specs.Actions.{positionOf, atStart}
-use Rattle.round.specs.Rounds.{again, listedIn, turn, round, historyOf}
+use Rattle.round.specs.Rounds.{again, listedIn, turn, historyOf}
 use Rattle.round.specs.Demand.{Comes, IsPast}
 use Rattle.round.proofs.Acts.{Asks}
 use Rattle.round.proofs.TurnLaws.{isGoing, waits-at}
 use Rattle.round.proofs.Histories.{somewhere-append, in-first, in-second}
-use Rattle.round.proofs.After.{round-along}
+use Rattle.round.proofs.After.{back, round-along}
 use Rattle.round.proofs.Sound.{Sound}
 use Rattle.round.proofs.Starting.{among-listed, listed-stage}
 use Rattle.round.proofs.Standings.{SameStanding, same-standing}
@@ -68,9 +68,6 @@ module _ (g : Game) (r : ℕ) where
   due-standing s u standing (going, here) = (rw (standing .suspended, standing .stage) going, standing .position ∙ here)
 
 module _ (book : List ℕ) (a : Accepted book) (g : Game) (z : Sized g) (f : Fits book g) (r : ℕ) where
-  abbrev back : State
-  back = round book g .played .state
-
   -- a claim that holds while others have their turns, that holds of routine r's own turns, and of one stretch after another
   module _
       (Claim : State → List Happening → State → Type 0)
@@ -86,19 +83,20 @@ module _ (book : List ℕ) (a : Accepted book) (g : Game) (z : Sized g) (f : Fit
         | no n ↦ let turned = turn-turned book a q s l ok in others s _ _ (turned .standings .others r n) (turned .keeps)
       ]
 
-      pub round-of-one : Claim (atStart g) (historyOf book g) back
+      pub round-of-one : Claim (atStart g) (historyOf book g) (back book g)
       round-of-one =
           round-along book a g z f Claim (λ s. others s s [] same-standing (λ t h. h)) both (λ q s l. each-turn q s (l .0))
           (λ s. others s (again s) [] same-standing (λ t h. there-again s t ∙ h))
 
-  module _ (inside : Among r (listedIn g)) (awake : routineAt (atStart g .game) r .suspended ≡ false) where
+  module _ (inside : Among r (listedIn g)) (unsuspended : routineAt (atStart g .game) r .suspended ≡ false) where
     pub due-first : Due g r (atStart g)
-    due-first = (rw (awake, listed-stage book g a z f r (among-listed book g a z f r inside)), refl)
+    due-first = (rw (unsuspended, listed-stage book g a z f r (among-listed book g a z f r inside)), refl)
 
-    pub due-last : Due g r back → ⊥
+    pub due-last : Due g r (back book g) → ⊥
     due-last due =
-        let on : routineAt (back .game) r .stage ≡ continuing = going-parts (routineAt (back .game) r .suspended) _ (due .0) .1 in
-        ⊎-elim (λ e. omega (arith, on, e)) (λ e. omega (arith, on, e)) (demand-3 book a g z f .restedOrEnded r inside awake)
+        let x = routineAt (back book g .game) r in
+        let on : x .stage ≡ continuing = going-parts (x .suspended) _ (due .0) .1 in
+        ⊎-elim (λ e. omega (arith, on, e)) (λ e. omega (arith, on, e)) (demand-3 book a g z f .restedOrEnded r inside unsuspended)
 
     -- what each such turn tells, the round tells
     pub told-then :
@@ -114,7 +112,7 @@ module _ (book : List ℕ) (a : Accepted book) (g : Game) (z : Sized g) (f : Fit
     -- the step there asks for a thing that is there at the round's end
     module _
         (t : Thing) (asks : Asks (standsFirst g r) (stepAt (countsOf book) (routineSteps book r) (standsFirst g r .place)) t)
-        (there : isThere back t ≡ true)
+        (there : isThere (back book g) t ≡ true)
       where
         abbrev p : ℕ
         p = standsFirst g r .place
