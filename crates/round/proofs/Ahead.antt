@@ -7,7 +7,6 @@ use mathlib.Core.List.{List}
 use native.Mathlib.Omega.{arith}
 use lib.Dec.{leb}
 use borrow.Author.Tests.{leb-true, le-leb, lt-leb}
-use Rattle.numbers.specs.Choice.{if_then_else_}
 use Rattle.numbers.proofs.Tests.{and-both, both-true}
 use Rattle.kinds.specs.declared.Counts.{Counts}
 use Rattle.kinds.specs.declared.Form.the-variants.{Pausing}
@@ -16,7 +15,7 @@ use Rattle.blocks.specs.Parse.{ParsedBlock, WhilesPause}
 use Rattle.blocks.proofs.Views.{standing-below}
 use Rattle.round.specs.Jumps.{sizeOf}
 use Rattle.round.specs.History.{countBelow}
-use Rattle.round.proofs.Counting.{count-le, count-drops}
+use Rattle.round.proofs.Counting.{one, count-le, count-drops}
 use Rattle.round.proofs.Leads.{isHalt, formAt, Leads}
 use Rattle.round.proofs.Falls.{rank, falls, going-below}
 
@@ -40,7 +39,7 @@ module _ (counts : Counts) (steps : List ℕ) where
     unfolding ahead
     ahead-all P p = count-le (λ z. P z && isAhead p z) P (of-set P p) (sizeOf steps)
 
-    pub ahead-falls : (P : ℕ → Bool) (p q : ℕ) → Leads counts steps p q → ahead P q + (if P p then 1 else 0) ≤ ahead P p
+    pub ahead-falls : (P : ℕ → Bool) (p q : ℕ) → Leads counts steps p q → ahead P q + one (P p) ≤ ahead P p
     unfolding ahead
     ahead-falls P p q e =
         let less : rankOf q < rankOf p = falls counts steps b w p q e in
@@ -55,7 +54,7 @@ module _ (counts : Counts) (steps : List ℕ) where
 
     pub ahead-over :
         (P : ℕ → Bool) (p q : ℕ) → formAt counts steps p ≡ stands Pausing →
-        ahead P q + (if P p then 1 else 0) ≤ countBelow P (sizeOf steps)
+        ahead P q + one (P p) ≤ countBelow P (sizeOf steps)
     unfolding ahead
     ahead-over P p q h =
         count-drops (λ z. P z && isAhead q z) P (of-set P q) (sizeOf steps) p (standing-below counts steps (sizeOf steps) p h)

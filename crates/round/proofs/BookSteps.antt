@@ -4,13 +4,8 @@ use Prim.Native.Nat.{ℕ, zero, suc, _+_, _<_, _≤_}
 use mathlib.Core.Path.{_≡_, refl, _∙_, ap}
 use mathlib.Core.Bool.{Bool}
 use mathlib.Core.List.{List, [], _∷_}
-use mathlib.Core.Logic.{_≢_}
 use native.Mathlib.Nat.{add-zero}
-use native.Mathlib.Decide.{ℕ-discrete}
 use native.Mathlib.Omega.{arith}
-use borrow.Author.Tests.{eq-eqb, ne-eqb}
-use lib.Dec.{eqb}
-use Rattle.numbers.specs.Choice.{if_then_else_}
 use Rattle.kinds.specs.Steps.{opAt}
 use Rattle.layout.specs.Layout.{mostSteps, routinesOf, stepsOf, firstStep, stepCount, stepsBefore}
 use Rattle.book.specs.Book.{stepsPart, routinePart, routineSteps}
@@ -18,54 +13,8 @@ use Rattle.book.specs.Accepted.{Accepted}
 use Rattle.book.proofs.Parts.{same-taken, same-routine}
 use Rattle.round.specs.History.{countBelow, stepsIn}
 use Rattle.round.proofs.Along.{All, Distinct}
-use Rattle.round.proofs.Counting.{sumOver, others-sum, count-all, count-same, count-sum}
-
--- a sum over all below n
-unfoldable sumBelow : (ℕ → ℕ) → ℕ → ℕ
-sumBelow f zero = 0
-sumBelow f (suc n) = sumBelow f n + f n
-
--- the summands but that of r
-abbrev without : ℕ → (ℕ → ℕ) → ℕ → ℕ
-without r f q = if eqb q r then 0 else f q
-
-module _ (r : ℕ) (f : ℕ → ℕ) where
-  without-own : without r f r ≡ 0
-  without-own = rw (eq-eqb r r refl)
-
-  without-other : (q : ℕ) → q ≢ r → without r f q ≡ f q
-  without-other q n = rw (ne-eqb q r n)
-
-  below-beyond : (n : ℕ) → n ≤ r → sumBelow (without r f) n ≡ sumBelow f n
-  unfolding sumBelow
-  below-beyond zero l = refl
-  below-beyond (suc n) l = omega (arith, without-other n (λ e. omega arith), below-beyond n (omega arith))
-
-  below-without : (n : ℕ) → r < n → sumBelow (without r f) n + f r ≡ sumBelow f n
-  unfolding sumBelow
-  below-without zero l = absurd (omega arith)
-  below-without (suc n) l =
-      elim (ℕ-discrete n r) [
-        | yes e ↦ rw e (omega (arith, without-own, below-beyond r (omega arith)))
-        | no d ↦ omega (arith, without-other n d, below-without n (omega arith))
-      ]
-
--- distinct numbers below n: taking one out of both sums, by induction on them
-over-below : (f : ℕ → ℕ) (n : ℕ) (rs : List ℕ) → Distinct rs → All (λ r. r < n) rs → sumOver f rs ≤ sumBelow f n
-unfolding sumOver
-over-below f n [] d all = omega arith
-over-below f n (r ∷ rs) d all =
-    omega (
-      arith,
-      others-sum f (without r f) r (without-other r f) rs (d .0),
-      below-without r f n (all .0),
-      over-below (without r f) n rs (d .1) (all .1),
-    )
-
-below-le : (f g : ℕ → ℕ) → ((r : ℕ) → f r ≤ g r) → (n : ℕ) → sumBelow f n ≤ sumBelow g n
-unfolding sumBelow
-below-le f g h zero = omega arith
-below-le f g h (suc n) = omega (arith, h n, below-le f g h n)
+use Rattle.round.proofs.Counting.{sumOver, count-all, count-same, count-sum}
+use Rattle.round.proofs.Sums.{sumBelow, over-below, below-le}
 
 -- a step of a routine is the step at its place in the book
 routine-op :
@@ -76,7 +25,7 @@ routine-op book r p l =
     simp add-zero at (part ∙ whole)
 
 module _ (book : List ℕ) where
-  steps-sum :
+  pub steps-sum :
       (set : ℕ → ℕ → Bool) (L : List ℕ) → stepsIn book set L ≡ sumOver (λ r. countBelow (set r) (stepCount book r)) L
   unfolding stepsIn sumOver
   steps-sum set [] = refl

@@ -1,35 +1,23 @@
--- Laws of counting the places that pass a test: fewer places pass a stricter test, and one place fewer where a place drops out; and what
--- such a count counts. By induction on how many places are looked at.
+-- Laws of counting the places that pass a test: fewer places pass a stricter test, and one place fewer where a place drops out; counts of
+-- places one after another add up; and what such a count counts. By induction on how many places are looked at. Beside the counts stands
+-- what a sum over some numbers is.
 use Prim.Native.Nat.{ℕ, zero, suc, _+_, _<_, _≤_}
-use mathlib.Core.Path.{_≡_, refl, sym}
+use mathlib.Core.Path.{_≡_, refl}
 use mathlib.Core.Bool.{Bool, true, false}
 use mathlib.Core.List.{List, [], _∷_}
-use mathlib.Core.Logic.{_↔_, inl, inr, _≢_}
+use mathlib.Core.Logic.{_↔_}
 use native.Mathlib.Decide.{ℕ-discrete}
 use native.Mathlib.Nat.{add-zero, add-suc}
 use native.Mathlib.Numerals.{add-one}
 use native.Mathlib.Omega.{arith}
 use Rattle.numbers.specs.Choice.{if_then_else_}
 use Rattle.numbers.proofs.Tests.{clash}
-use Rattle.round.specs.History.{countBelow, Among}
+use Rattle.round.specs.History.{countBelow}
 
--- a sum over some numbers
+-- a sum over some numbers, whose laws stand in Sums.antt
 unfoldable pub sumOver : (ℕ → ℕ) → List ℕ → ℕ
 sumOver f [] = 0
 sumOver f (r ∷ rs) = f r + sumOver f rs
-
-pub over-le : (f g : ℕ → ℕ) → ((r : ℕ) → f r ≤ g r) → (rs : List ℕ) → sumOver f rs ≤ sumOver g rs
-unfolding sumOver
-over-le f g h [] = omega arith
-over-le f g h (r ∷ rs) = omega (arith, h r, over-le f g h rs)
-
--- a sum in which r alone may count otherwise, where r is not one of the numbers
-pub others-sum :
-    (f g : ℕ → ℕ) (r : ℕ) → ((q : ℕ) → q ≢ r → g q ≡ f q) → (rs : List ℕ) → (Among r rs → ⊥) → sumOver g rs ≡ sumOver f rs
-unfolding sumOver
-others-sum f g r others [] out = refl
-others-sum f g r others (q ∷ qs) out =
-    omega (arith, others q (λ e. out (inl (sym e))), others-sum f g r others qs (λ h. out (inr h)))
 
 -- what one place counts
 abbrev pub one : Bool → ℕ
@@ -49,7 +37,7 @@ module _ (P Q : ℕ → Bool) (up : (x : ℕ) → P x ≡ true → Q x ≡ true)
 
   -- place x passes the second test, if c is set, and not the first
   pub count-drops :
-      (n x : ℕ) → x < n → P x ≡ false → (c : Bool) → (c ≡ true → Q x ≡ true) → countBelow P n + (if c then 1 else 0) ≤ countBelow Q n
+      (n x : ℕ) → x < n → P x ≡ false → (c : Bool) → (c ≡ true → Q x ≡ true) → countBelow P n + one c ≤ countBelow Q n
   unfolding countBelow
   count-drops zero x l out c there = absurd (omega arith)
   count-drops (suc n) x l out c there =
@@ -89,6 +77,6 @@ module _ (test : ℕ → Bool) (Such : ℕ → Type 0) where
   counted zero h = Counted.none
   counted (suc n) h = next (test n) (counted n (λ i l. h i (omega arith))) (h n (omega arith))
     where
-      next : (t : Bool) {k m : ℕ} → Counted Such k m → (t ≡ true) ↔ Such k → Counted Such (suc k) (m + (if t then 1 else 0))
+      next : (t : Bool) {k m : ℕ} → Counted Such k m → (t ≡ true) ↔ Such k → Counted Such (suc k) (m + one t)
       next true c h = rw add-one (Counted.such c (h .0 refl))
       next false c h = rw add-zero (Counted.other c (λ x. clash (h .1 x) refl))

@@ -11,7 +11,7 @@ use borrow.Author.Tests.{eq-eqb, ne-eqb, eqb-true}
 use lib.Dec.{eqb}
 use lib.ListN.{length}
 use Rattle.numbers.specs.Choice.{if_then_else_}
-use Rattle.numbers.proofs.Tests.{clash, by-test}
+use Rattle.numbers.proofs.Tests.{clash}
 use Rattle.kinds.specs.declared.Counts.{Counts}
 use Rattle.layout.specs.Layout.{routinesOf}
 use Rattle.book.specs.Accepted.{Accepted}
@@ -25,39 +25,20 @@ use Rattle.round.specs.declared.Position.{Position}
 use Rattle.round.specs.State.{State, Happening, gave, ended, missing, past, marked, completed}
 use Rattle.round.specs.History.{howMany, Somewhere, Among}
 use Rattle.round.specs.Actions.{kept, atStart}
-use Rattle.round.specs.Rounds.{stageAfter, listedIn, ticksOf, turn, round, historyOf}
+use Rattle.round.specs.Rounds.{stageAfter, listedIn, ticksOf, turn, historyOf}
 use Rattle.round.specs.Demand.{endsRoutine}
 use Rattle.round.proofs.Acts.{Stops, ends, rests, misses, continues}
-use Rattle.round.proofs.Counting.{sumOver, others-sum, one}
-use Rattle.round.proofs.Histories.{many-append, none-told}
+use Rattle.round.proofs.Counting.{sumOver, one}
+use Rattle.round.proofs.Sums.{own-sum, none-sum, alone-sum, kept-sum}
+use Rattle.round.proofs.Histories.{none-of-all, many-append, none-told}
 use Rattle.round.proofs.Along.{Distinct}
-use Rattle.round.proofs.After.{round-along}
+use Rattle.round.proofs.After.{back, round-along}
 use Rattle.round.proofs.Sound.{Sound}
 use Rattle.round.proofs.Starting.{listed-distinct, among-listed, listed-stage}
 use Rattle.round.proofs.Coming.{turn-untouched}
 use Rattle.round.proofs.AfterTurn.{going-parts, turn-by, routine-after}
 use Rattle.round.proofs.Outcomes.{turn-shape}
 use Rattle.round.proofs.Turned.{turn-turned}
-
--- sums over some routines, of which r alone counts n more by g than by f
-module _ (f g : ℕ → ℕ) (r : ℕ) (others : (q : ℕ) → q ≢ r → g q ≡ f q) where
-  own-sum : (n : ℕ) → n + f r ≡ g r → (L : List ℕ) → Distinct L → Among r L → n + sumOver f L ≡ sumOver g L
-  unfolding sumOver
-  own-sum n own (q ∷ qs) d (inl e) = rw (← e) (omega (arith, own, others-sum f g r others qs (rw (← e) at (d .0))))
-  own-sum n own (q ∷ qs) d (inr h) = omega (arith, others q (λ e. d .0 (rw e h)), own-sum n own qs (d .1) h)
-
-none-sum : (f : ℕ → ℕ) (L : List ℕ) → ((r : ℕ) → Among r L → f r ≡ 0) → sumOver f L ≡ 0
-unfolding sumOver
-none-sum f [] none = refl
-none-sum f (r ∷ rs) none = omega (arith, none r (inl refl), none-sum f rs (λ q h. none q (inr h)))
-
-kept-sum : (test : ℕ → Bool) (L : List ℕ) → length (kept test L) ≡ sumOver (λ r. one (test r)) L
-unfolding kept sumOver
-kept-sum test [] = refl
-kept-sum test (r ∷ rs) =
-    let rest = kept-sum test rs in
-    by-test (λ (l : List ℕ). length l ≡ one (test r) + sumOver (λ q. one (test q)) rs) (test r) (λ h. rw h (omega arith))
-    (λ h. rw h (omega arith))
 
 -- routine r is in stage 3
 abbrev isEnded : State → ℕ → Bool
@@ -68,11 +49,7 @@ module _ (test : Happening → Bool) (only : (h : Happening) → endsRoutine h �
   no-end : (told : List Happening) → howMany endsRoutine told ≡ 0 → howMany test told ≡ 0
   unfolding howMany
   no-end [] e = refl
-  no-end (h ∷ told) e = let (first, rest) = parts (endsRoutine h) _ e in rw (only h first) (no-end told rest)
-    where
-      parts : (t : Bool) (n : ℕ) → (if t then n + 1 else n) ≡ 0 → (t ≡ false) × (n ≡ 0)
-      parts true n e = absurd (omega arith)
-      parts false n e = (refl, e)
+  no-end (h ∷ told) e = let (first, rest) = none-of-all (endsRoutine h) _ e in rw (only h first) (no-end told rest)
 
   -- a last step tells the end of its routine if it leads to stage 3
   stops-told :
@@ -128,9 +105,6 @@ abbrev counted : (Happening → Bool) → State → ℕ → ℕ
 counted test s r = one (test (ended r) && isEnded s r)
 
 module _ (book : List ℕ) (a : Accepted book) (g : Game) (z : Sized g) (f : Fits book g) where
-  abbrev back : State
-  back = round book g .played .state
-
   distinct : Distinct (listedIn g)
   distinct = listed-distinct book g a z f
 
@@ -175,7 +149,7 @@ module _ (book : List ℕ) (a : Accepted book) (g : Game) (z : Sized g) (f : Fit
         own-sum (counted test s) (counted test u) r others _ (own-told r s l) (listedIn g) distinct inside
 
     -- at the start none of them is in stage 3
-    round-told : howMany test (historyOf book g) ≡ total back
+    round-told : howMany test (historyOf book g) ≡ total (back book g)
     round-told =
         let told = round-along book a g z f Claim claim-none claim-both claim-turn claim-none in
         let none =
@@ -184,22 +158,22 @@ module _ (book : List ℕ) (a : Accepted book) (g : Game) (z : Sized g) (f : Fit
         omega (arith, told)
 
   pub ends-counted :
-      howMany endsRoutine (historyOf book g) ≡ length (kept (λ r. eqb (routineAt (back .game) r .stage) stage.ended) (listedIn g))
-  ends-counted = round-told endsRoutine (λ h e. e) ∙ sym (kept-sum (isEnded back) (listedIn g))
+      howMany endsRoutine (historyOf book g) ≡ length (kept (λ r. eqb (routineAt (back book g .game) r .stage) stage.ended) (listedIn g))
+  ends-counted = round-told endsRoutine (λ h e. e) ∙ sym (kept-sum (isEnded (back book g)) (listedIn g))
 
   module _ (r : ℕ) (inside : Among r (listedIn g)) where
-    own-counted : howMany (endsOf r) (historyOf book g) ≡ one (isEnded back r)
+    own-counted : howMany (endsOf r) (historyOf book g) ≡ one (isEnded (back book g) r)
     own-counted =
-        let own = own-sum (λ q. 0) (counted (endsOf r) back) r (λ q n. rw (ne-eqb q r n)) (one (isEnded back r))
-        (rw (eq-eqb r r refl) (omega arith)) (listedIn g) distinct inside in
-        omega (arith, round-told (endsOf r) (end-alone r), none-sum (λ q. 0) (listedIn g) (λ q h. refl))
+        round-told (endsOf r) (end-alone r) ∙
+        alone-sum (counted (endsOf r) (back book g)) r (λ q n. rw (ne-eqb q r n)) (listedIn g) distinct inside ∙
+        rw (eq-eqb r r refl)
 
-    pub ended-as-told : (routineAt (back .game) r .stage ≡ stage.ended) ↔ Somewhere (λ h. h ≡ ended r) (historyOf book g)
+    pub ended-as-told : (routineAt (back book g .game) r .stage ≡ stage.ended) ↔ Somewhere (λ h. h ≡ ended r) (historyOf book g)
     ended-as-told = (
       λ e.
           some-told (endsOf r) (λ h. h ≡ ended r) (is-end-of r) (historyOf book g)
-          (rw (own-counted, eq-eqb (routineAt (back .game) r .stage) stage.ended e) (omega arith)),
-      λ h. eqb-true _ _ (by (isEnded back r) own-counted h),
+          (rw (own-counted, eq-eqb (routineAt (back book g .game) r .stage) stage.ended e) (omega arith)),
+      λ h. eqb-true _ _ (by (isEnded (back book g) r) own-counted h),
     )
       where
         by : (t : Bool) → howMany (endsOf r) (historyOf book g) ≡ one t → Somewhere (λ h. h ≡ ended r) (historyOf book g) → t ≡ true

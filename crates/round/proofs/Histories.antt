@@ -19,6 +19,11 @@ use Rattle.round.specs.Demand.{givesSignal, endsRoutine, Comes, signalGi
 use Rattle.round.proofs.Acts.{Says, silent, marks, gives, givesNumber, finds, Stops, ends, rests, misses, continues}
 use Rattle.round.proofs.TurnLaws.{moves}
 
+-- where one more, if it counts, makes none, it does not count and the others are none
+pub none-of-all : (t : Bool) (n : ℕ) → (if t then n + 1 else n) ≡ 0 → (t ≡ false) × (n ≡ 0)
+none-of-all true n e = absurd (omega arith)
+none-of-all false n e = (refl, e)
+
 module _ (test : Happening → Bool) where
   pub many-append : (a b : List Happening) → howMany test (a ++ b) ≡ howMany test a + howMany test b
   unfolding howMany
@@ -38,14 +43,8 @@ module _ (test : Happening → Bool) where
       (P : Happening → Type 0) → ((h : Happening) → P h → test h ≡ true) → (told : List Happening) → howMany test told ≡ 0 →
       Somewhere P told → ⊥
   unfolding howMany
-  none-told P passes (h ∷ told) e (inl p) =
-      let one : howMany test told + 1 ≡ 0 = rw (passes h p) at e in
-      absurd (omega arith)
-  none-told P passes (h ∷ told) e (inr p) = none-told P passes told (rest (test h) _ e) p
-    where
-      rest : (t : Bool) (n : ℕ) → (if t then n + 1 else n) ≡ 0 → n ≡ 0
-      rest true n k = absurd (omega arith)
-      rest false n k = k
+  none-told P passes (h ∷ told) e (inl p) = clash (passes h p) (none-of-all (test h) _ e .0)
+  none-told P passes (h ∷ told) e (inr p) = none-told P passes told (none-of-all (test h) _ e .1) p
 
   -- what a step of routine r at position x tells
   module _ {counts : Counts} {r : ℕ} {steps : List ℕ} {x : Position} {s : State} where

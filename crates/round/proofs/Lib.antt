@@ -43,6 +43,7 @@ pub mod Closing
 pub mod CatchingUp
 pub mod Passes
 -- what is counted: steps completed, and what is told
+pub mod Sums
 pub mod BookSteps
 pub mod Paying
 pub mod PayingPasses

@@ -22,6 +22,7 @@ use Rattle.round.specs.Ticks.{fresh}
 use Rattle.round.specs.Rounds.{ticks, took, isDone, ticksOf, turn}
 use Rattle.round.specs.Demand.{endsRoutine}
 use Rattle.round.specs.Completed.{completes}
+use Rattle.round.proofs.Counting.{one}
 use Rattle.round.proofs.Histories.{many-append, says-none}
 use Rattle.round.proofs.Leads.{Leaves}
 use Rattle.round.proofs.Acts.{Says, Stops}
@@ -91,7 +92,7 @@ module _
         (λ h. rw (after-going r s t standing h, position-after r s t standing h, h) (ticks-pay _ _ s))
 
 -- one step more, in the set or not, where n are left behind it
-one-more : (t : Bool) (k m n : ℕ) → k ≡ 0 → n + (if t then 1 else 0) ≤ m → (if t then k + 1 else k) + n ≤ m
+one-more : (t : Bool) (k m n : ℕ) → k ≡ 0 → n + one t ≤ m → (if t then k + 1 else k) + n ≤ m
 one-more true k m n none h = omega arith
 one-more false k m n none h = omega arith
 

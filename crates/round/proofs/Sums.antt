@@ -1,0 +1,111 @@
+-- Laws of sums: over some numbers, over different ones of which one alone counts, or counts otherwise, and over all numbers below a bound.
+-- By induction on the numbers; different numbers below a bound are together at most all of them, by taking one out of both sums at a time.
+use Prim.Native.Nat.{ℕ, zero, suc, _+_, _<_, _≤_}
+use mathlib.Core.Path.{_≡_, refl, sym}
+use mathlib.Core.Bool.{Bool}
+use mathlib.Core.List.{List, [], _∷_}
+use mathlib.Core.Logic.{inl, inr, ⊎-elim, _≢_}
+use native.Mathlib.Decide.{ℕ-discrete}
+use native.Mathlib.Omega.{arith}
+use borrow.Author.Tests.{eq-eqb, ne-eqb}
+use lib.Dec.{eqb}
+use lib.ListN.{length}
+use Rattle.numbers.specs.Choice.{if_then_else_}
+use Rattle.numbers.proofs.Tests.{by-test}
+use Rattle.round.specs.History.{Among}
+use Rattle.round.specs.Actions.{kept}
+use Rattle.round.proofs.Counting.{sumOver, one}
+use Rattle.round.proofs.Along.{All, Distinct}
+use Rattle.round.proofs.Listing.{among-or}
+
+pub over-le : (f g : ℕ → ℕ) → ((r : ℕ) → f r ≤ g r) → (rs : List ℕ) → sumOver f rs ≤ sumOver g rs
+unfolding sumOver
+over-le f g h [] = omega arith
+over-le f g h (r ∷ rs) = omega (arith, h r, over-le f g h rs)
+
+-- a sum in which r alone may count otherwise, where r is not one of the numbers
+pub others-sum :
+    (f g : ℕ → ℕ) (r : ℕ) → ((q : ℕ) → q ≢ r → g q ≡ f q) → (rs : List ℕ) → (Among r rs → ⊥) → sumOver g rs ≡ sumOver f rs
+unfolding sumOver
+others-sum f g r others [] out = refl
+others-sum f g r others (q ∷ qs) out =
+    omega (arith, others q (λ e. out (inl (sym e))), others-sum f g r others qs (λ h. out (inr h)))
+
+-- sums over different numbers, of which r alone counts n more by g than by f
+module _ (f g : ℕ → ℕ) (r : ℕ) (others : (q : ℕ) → q ≢ r → g q ≡ f q) where
+  pub own-sum : (n : ℕ) → n + f r ≡ g r → (L : List ℕ) → Distinct L → Among r L → n + sumOver f L ≡ sumOver g L
+  unfolding sumOver
+  own-sum n own (q ∷ qs) d (inl e) = rw (← e) (omega (arith, own, others-sum f g r others qs (rw (← e) at (d .0))))
+  own-sum n own (q ∷ qs) d (inr h) = omega (arith, others q (λ e. d .0 (rw e h)), own-sum n own qs (d .1) h)
+
+pub none-sum : (f : ℕ → ℕ) (L : List ℕ) → ((r : ℕ) → Among r L → f r ≡ 0) → sumOver f L ≡ 0
+unfolding sumOver
+none-sum f [] none = refl
+none-sum f (r ∷ rs) none = omega (arith, none r (inl refl), none-sum f rs (λ q h. none q (inr h)))
+
+-- a sum over different numbers in which r alone counts is what r counts, if r is one of them
+module _ (f : ℕ → ℕ) (r : ℕ) (others : (q : ℕ) → q ≢ r → f q ≡ 0) (L : List ℕ) (d : Distinct L) where
+  pub alone-sum : Among r L → sumOver f L ≡ f r
+  alone-sum inside =
+      let own = own-sum (λ q. 0) f r others (f r) (omega arith) L d inside in
+      omega (arith, none-sum (λ q. 0) L (λ q h. refl))
+
+  pub alone-le : sumOver f L ≤ f r
+  alone-le =
+      ⊎-elim (λ h. omega (arith, alone-sum h)) (λ out. omega (arith, none-sum f L (λ q h. others q (λ e. out (rw e at h)))))
+      (among-or r L)
+
+pub kept-sum : (test : ℕ → Bool) (L : List ℕ) → length (kept test L) ≡ sumOver (λ r. one (test r)) L
+unfolding kept sumOver
+kept-sum test [] = refl
+kept-sum test (r ∷ rs) =
+    let rest = kept-sum test rs in
+    by-test (λ (l : List ℕ). length l ≡ one (test r) + sumOver (λ q. one (test q)) rs) (test r) (λ h. rw h (omega arith))
+    (λ h. rw h (omega arith))
+
+-- a sum over all below n
+unfoldable pub sumBelow : (ℕ → ℕ) → ℕ → ℕ
+sumBelow f zero = 0
+sumBelow f (suc n) = sumBelow f n + f n
+
+-- the summands but that of r
+abbrev without : ℕ → (ℕ → ℕ) → ℕ → ℕ
+without r f q = if eqb q r then 0 else f q
+
+module _ (r : ℕ) (f : ℕ → ℕ) where
+  without-own : without r f r ≡ 0
+  without-own = rw (eq-eqb r r refl)
+
+  without-other : (q : ℕ) → q ≢ r → without r f q ≡ f q
+  without-other q n = rw (ne-eqb q r n)
+
+  below-beyond : (n : ℕ) → n ≤ r → sumBelow (without r f) n ≡ sumBelow f n
+  unfolding sumBelow
+  below-beyond zero l = refl
+  below-beyond (suc n) l = omega (arith, without-other n (λ e. omega arith), below-beyond n (omega arith))
+
+  below-without : (n : ℕ) → r < n → sumBelow (without r f) n + f r ≡ sumBelow f n
+  unfolding sumBelow
+  below-without zero l = absurd (omega arith)
+  below-without (suc n) l =
+      elim (ℕ-discrete n r) [
+        | yes e ↦ rw e (omega (arith, without-own, below-beyond r (omega arith)))
+        | no d ↦ omega (arith, without-other n d, below-without n (omega arith))
+      ]
+
+-- distinct numbers below n: taking one out of both sums, by induction on them
+pub over-below : (f : ℕ → ℕ) (n : ℕ) (rs : List ℕ) → Distinct rs → All (λ r. r < n) rs → sumOver f rs ≤ sumBelow f n
+unfolding sumOver
+over-below f n [] d all = omega arith
+over-below f n (r ∷ rs) d all =
+    omega (
+      arith,
+      others-sum f (without r f) r (without-other r f) rs (d .0),
+      below-without r f n (all .0),
+      over-below (without r f) n rs (d .1) (all .1),
+    )
+
+pub below-le : (f g : ℕ → ℕ) → ((r : ℕ) → f r ≤ g r) → (n : ℕ) → sumBelow f n ≤ sumBelow g n
+unfolding sumBelow
+below-le f g h zero = omega arith
+below-le f g h (suc n) = omega (arith, h n, below-le f g h n)
