@@ -1,13 +1,15 @@
 -- What a round is told is told for the reason that document 01 gives, and nothing else is; with what it hands back either way.
 -- A reason settles each check up to its own, so it is enough to find one; the book and the game are checked as an order checks them.
 use Prim.Native.Nat.{ℕ, _≤_}
-use mathlib.Core.Path.{_≡_, sym, ap, _∙_}
+use mathlib.Core.Path.{_≡_, refl, sym, ap, _∙_}
 use mathlib.Core.List.{List}
 use native.Mathlib.Omega.{arith}
-use native.Mathlib.Decide.{ℕ-discrete, decLt}
+use native.Mathlib.Decide.{decLt}
 use borrow.Author.Tests.{eq-eqb, ne-eqb, le-leb, lt-leb, lt-ltb, le-ltb}
+use lib.Dec.{eqb}
 use lib.ListN.{length}
 use lib.IntN.{ℤ}
+use Rattle.numbers.proofs.Tests.{by-test}
 use Rattle.layout.specs.declared.Verdict.{Verdict}
 use Rattle.layout.specs.Verdicts.{accepted}
 use Rattle.book.specs.Accepted.{Accepted}
@@ -63,10 +65,9 @@ module _ (book : List ℕ) (g : Game) (buffer : List ℤ) where
 
   -- either way the answer tells the verdict
   pub answer-verdict : answer book g buffer .verdict ≡ roundVerdict book g buffer
-  answer-verdict = elim (ℕ-discrete (roundVerdict book g buffer .number) 0) [
-    | yes h ↦ ap (λ (a : Answer). a .verdict) (played-out h)
-    | no h ↦ ap (λ (a : Answer). a .verdict) (turned-down h)
-  ]
+  unfolding answer
+  answer-verdict =
+      by-test (λ (a : Answer). a .verdict ≡ roundVerdict book g buffer) (eqb (roundVerdict book g buffer .number) 0) (λ h. refl) (λ h. refl)
 
 -- what an accepted round is accepted for
 abbrev pub Playable : List ℕ → Game → List ℤ → Type 0
