@@ -1,6 +1,6 @@
 -- What holds of each turn holds of a pass and of a round's passes: for any claim on a state and on the turns from it that holds of no turns
 -- and of some after others. By induction on the listed routines, and on the passes allowed. So too for any claim on two states and what is
--- told between them, from the states that turns keep.
+-- told between them, from the states that turns keep. First stands what holds of each of some, and that some routines are different ones.
 use Prim.Native.Nat.{ℕ, zero, suc}
 use mathlib.Core.Path.{refl}
 use mathlib.Core.List.{List, [], _∷_, _++_}
