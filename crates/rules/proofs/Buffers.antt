@@ -1,11 +1,11 @@
 -- The mark buffer of an accepted round: each mark has its two numbers in its place, and behind the marks nothing has changed.
 -- By induction over the marks: `written` puts two numbers in front for each.
 use Prim.Native.Nat.{ℕ, zero, suc, _*_, _≤_, _<_}
-use mathlib.Core.Path.{_≡_, refl, _∙_}
+use mathlib.Core.Path.{_≡_, refl, sym, _∙_}
 use mathlib.Core.List.{List, [], _∷_, _++_}
 use native.Mathlib.Omega.{arith}
-use lib.ListN.{length, getD, take, drop, length-append, length-drop}
-use lib.Seq.{drop-append-seam}
+use lib.ListN.{length, getD, take, drop}
+use lib.Seq.{length-front, length-take-le, drop-at}
 use lib.IntN.{ℤ, pos}
 use Rattle.round.specs.Answers.{numbersPerMark, written}
 use Rattle.rules.proofs.Walks.{Marks}
@@ -26,11 +26,11 @@ written-marks (m ∷ ms) rest (suc i) h =
     rw e (written-marks ms rest i (omega arith))
 
 pub written-beyond : (ms : Marks) (rest : List ℤ) → drop (numbersPerMark * length ms) (written ms ++ rest) ≡ rest
-written-beyond ms rest = rw (← two-each ms) (drop-append-seam (written ms) rest)
+written-beyond ms rest = drop-at (written ms) rest _ (two-each ms)
 
 pub written-length :
     (ms : Marks) (buffer : List ℤ) → numbersPerMark * length ms ≤ length buffer →
     length (written ms ++ drop (numbersPerMark * length ms) buffer) ≡ length buffer
 written-length ms buffer room =
     let n = numbersPerMark * length ms in
-    length-append (written ms) (drop n buffer) ∙ omega (arith, room, two-each ms, length-drop n buffer)
+    length-front buffer (written ms) n (two-each ms ∙ sym (length-take-le n buffer room))
