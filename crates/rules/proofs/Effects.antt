@@ -87,21 +87,21 @@ module _ (s : State) (ms : Marks) where
 
 -- routine t of a state gives way to another one
 module _ (s : State) (t : ℕ) (x : Routine) where
-  abbrev among : List Routine
-  among = set (s .game .routines) t x
+  abbrev replaced : List Routine
+  replaced = set (s .game .routines) t x
 
   -- a field that it keeps, and one that it may change
-  pub keeps : {B : Type 0} (f : Routine → B) → f x ≡ f (routineAt (s .game) t) → map f among ≡ map f (s .game .routines)
+  pub keeps : {B : Type 0} (f : Routine → B) → f x ≡ f (routineAt (s .game) t) → map f replaced ≡ map f (s .game .routines)
   keeps f e = map-set-same f (s .game .routines) t x blank e
 
-  pub changes : {B : Type 0} (f : Routine → B) → map f among ≡ set (map f (s .game .routines)) t (f x)
+  pub changes : {B : Type 0} (f : Routine → B) → map f replaced ≡ set (map f (s .game .routines)) t (f x)
   changes f = map-set f (s .game .routines) t x
 
   -- the lists that the fields make
   pub routine-view :
       (ms : Marks) {status : List Stage} {susp stops suspends resumes : List Bool} →
-      map seen among ≡ status → map (λ x. x .suspended) among ≡ susp →
-      map (λ x. x .stopping) among ≡ stops → map (λ x. x .suspending) among ≡ suspends → map (λ x. x .resuming) among ≡ resumes →
+      map seen replaced ≡ status → map (λ x. x .suspended) replaced ≡ susp →
+      map (λ x. x .stopping) replaced ≡ stops → map (λ x. x .suspending) replaced ≡ suspends → map (λ x. x .resuming) replaced ≡ resumes →
       view (withGame s (withRoutine (s .game) t x)) ms
       ≡ withThreads (ordered (view s ms) (entriesOf (s .game .starting)) stops suspends resumes) (record { status = status; susp = susp })
   unfolding view
@@ -115,8 +115,8 @@ module _ (s : State) (ms : Marks) (t : ℕ) where
     flagged = withFlags (routineAt (s .game) t) stop suspend resume
 
     flags-view :
-        {stops suspends resumes : List Bool} → map (λ x. x .stopping) (among s t flagged) ≡ stops →
-        map (λ x. x .suspending) (among s t flagged) ≡ suspends → map (λ x. x .resuming) (among s t flagged) ≡ resumes →
+        {stops suspends resumes : List Bool} → map (λ x. x .stopping) (replaced s t flagged) ≡ stops →
+        map (λ x. x .suspending) (replaced s t flagged) ≡ suspends → map (λ x. x .resuming) (replaced s t flagged) ≡ resumes →
         view (withGame s (withRoutine (s .game) t flagged)) ms
         ≡ ordered (view s ms) (entriesOf (s .game .starting)) stops suspends resumes
     unfolding view
