@@ -19,7 +19,7 @@ use Rattle.kinds.specs.declared.Step.the-variants as step
 use Rattle.kinds.specs.declared.Counts.{Counts}
 use Rattle.kinds.specs.declared.Form.the-variants.{Plain, Pausing, IfOpening, ElseMarker, WhileOpening, EndMarker}
 use Rattle.kinds.specs.Steps.{stepAt}
-use Rattle.blocks.specs.Blocks.{View, stands, viewAt}
+use Rattle.blocks.specs.Blocks.{View, stands}
 use Rattle.blocks.specs.Parse.{ParsedBlock, empty, more, ParsedStep, plain, pausing, ifOnly, ifElse, loop}
 use Rattle.blocks.proofs.Parses.{block-goes, step-goes}
 use Rattle.layout.specs.Layout.{mostRoutines}
@@ -29,8 +29,9 @@ use Rattle.round.specs.declared.Position.{Position}
 use Rattle.round.specs.declared.Effect.the-variants.{Nothing}
 use Rattle.round.specs.declared.Act.the-variants.{Goes}
 use Rattle.round.specs.State.{State}
-use Rattle.round.specs.Jumps.{sizeOf, pastPartner, fromEnd}
+use Rattle.round.specs.Jumps.{pastPartner, fromEnd}
 use Rattle.round.specs.Ticks.{Tick, telling, fresh, tick, tickOf, tickAt}
+use Rattle.round.proofs.Leads.{formAt}
 use Rattle.round.proofs.Forms.{form-there}
 use Rattle.round.proofs.Jumps.{past-partner, from-if, from-else, from-while}
 use Rattle.rules.specs.Instructions.{TERM, Instruction, nothing, _then_, while, whileInst}
@@ -49,7 +50,7 @@ module _ (counts : Counts) (r : ℕ) (steps : List ℕ) (few : counts .routines 
   stepOf = stepAt counts steps
 
   abbrev at : ℕ → View
-  at = viewAt counts steps (sizeOf steps)
+  at = formAt counts steps
 
   tick-at :
       {k : Kind} {p : ℕ} (x : Position) (s : State) → x .place ≡ p → stepOf p ≡ step.Kind k → tick counts r steps x s ≡ tickOf r steps x s k

@@ -1,8 +1,8 @@
 -- A step that holds no block: what its tick comes to is an instance of its rule. Where the turn goes on, by what its effect does to the
 -- scheduler; where it may wait, by what a try comes to.
 use Prim.Native.Nat.{ℕ, suc, _+_, _-_, _<_, _≤_}
-use mathlib.Core.Path.{_≡_, refl, ap, _∙_}
-use mathlib.Core.Bool.{Bool, true, false, _&&_, not}
+use mathlib.Core.Path.{_≡_, refl, sym, ap, _∙_}
+use mathlib.Core.Bool.{true, false, _&&_, not, and-true}
 use mathlib.Core.List.{List, [], _++_, append-nil}
 use mathlib.Core.Logic.{_≢_, _⊎_, inl, inr}
 use native.Mathlib.Omega.{arith}
@@ -23,7 +23,7 @@ use Rattle.kinds.specs.declared.Form.the-variants.{Plain, Pausing}
 use Rattle.kinds.specs.Steps.{stepAt}
 use Rattle.kinds.specs.Forms.{formOf}
 use Rattle.game.specs.Game.{counterAt}
-use Rattle.blocks.specs.Blocks.{stands, viewAt}
+use Rattle.blocks.specs.Blocks.{stands}
 use Rattle.round.specs.declared.Ending.{Ending}
 use Rattle.round.specs.declared.Ending.the-variants.{Missed, Continued}
 use Rattle.round.specs.declared.Position.{Position}
@@ -33,8 +33,8 @@ use Rattle.round.specs.declared.Act.{Act}
 use Rattle.round.specs.declared.Act.the-variants.{Goes, Halts}
 use Rattle.round.specs.State.{State, Thing, signal, end, number, numberAt, isThere}
 use Rattle.round.specs.Ticks.{Tick, telling, fresh, begunAt, countAt, onward, tries, restsFor, waitsFor, reads, tickOf, effectOn}
-use Rattle.round.specs.Jumps.{sizeOf}
 use Rattle.round.specs.Answers.{marksIn}
+use Rattle.round.proofs.Leads.{formAt}
 use Rattle.round.proofs.Forms.{leaf-there}
 use Rattle.round.proofs.Fields.{FieldsRight, fields-right}
 use Rattle.rules.specs.Instructions.{TERM, nothing}
@@ -56,11 +56,6 @@ Leaf f = (f ≡ Plain) ⊎ (f ≡ Pausing)
 no-leaf : {f : Form} {A : Type 0} → Leaf f → (f ≡ Plain → true ≡ false) → (f ≡ Pausing → true ≡ false) → A
 no-leaf (inl e) p q = clash refl (p e)
 no-leaf (inr e) p q = clash refl (q e)
-
--- where a thing is missing, and not with its count over, the count is not over
-not-over : (a b : Bool) → (a && not b) ≡ false → b ≡ false → a ≡ false
-not-over true b h e = rw e at h
-not-over false b h e = refl
 
 -- a step that ends the turn is kept, with the count left, or is behind the routine
 pub data Halted (r : ℕ) (k : Kind) (x : Position) (s : State) (ms : Marks) (h : Ending) (y : Position) : Type 0 where
@@ -127,7 +122,7 @@ module _ (counts : Counts) (r : ℕ) (steps : List ℕ) where
         by-test (ByRule k x s ms) (eqb count 0 && not (isThere s t))
         (λ h. passes (over (omega (arith, eqb-true count 0 (and-both (eqb count 0) (not (isThere s t)) h .0)))))
         (λ h.
-        let goes-on : isThere s t ≡ false → 0 < count = λ e. omega (arith, eqb-false count 0 (not-over (eqb count 0) (isThere s t) h e)) in
+        let goes-on : isThere s t ≡ false → 0 < count = λ e. omega (arith, eqb-false count 0 (sym (and-true _) ∙ (rw e at h))) in
         attempts t Nothing (begunAt (x .place) (count - 1))
         (λ e. passes (elim (decLe count 0) [ yes z ↦ over z | no p ↦ w (omega arith) .found e ]))
         (λ e o. stays (w (goes-on e) .rests e o) coop-term refl)
@@ -194,7 +189,7 @@ module _ (counts : Counts) (r : ℕ) (steps : List ℕ) where
   -- where such a step stands, by its rule
   pub leaf-at :
       counts .routines ≤ mostRoutines →
-      (p : ℕ) → (viewAt counts steps (sizeOf steps) p ≡ stands Plain) ⊎ (viewAt counts steps (sizeOf steps) p ≡ stands Pausing) →
+      (p : ℕ) → (formAt counts steps p ≡ stands Plain) ⊎ (formAt counts steps p ≡ stands Pausing) →
       (k : Kind)
       × (stepAt counts steps p ≡ step.Kind k)
       × ((x : Position) (s : State) (ms : Marks) → ByRule k x s ms (tickOf r steps x s k))

@@ -8,7 +8,7 @@ use Rattle.kinds.specs.declared.Step.{Step}
 use Rattle.kinds.specs.declared.Counts.{Counts}
 use Rattle.kinds.specs.Steps.{stepAt}
 use Rattle.kinds.proofs.Readable.{step-missing}
-use Rattle.blocks.specs.Blocks.{View, viewAt}
+use Rattle.blocks.specs.Blocks.{View}
 use Rattle.blocks.specs.Parse.{ParsedBlock}
 use Rattle.layout.specs.Layout.{mostRoutines}
 use Rattle.round.specs.declared.Ending.{Ending}
@@ -18,6 +18,7 @@ use Rattle.round.specs.declared.Act.the-variants.{Halts}
 use Rattle.round.specs.State.{State}
 use Rattle.round.specs.Jumps.{sizeOf}
 use Rattle.round.specs.Ticks.{Tick, fresh, tick, tickAt}
+use Rattle.round.proofs.Leads.{formAt}
 use Rattle.rules.specs.Instructions.{TERM, Instruction, nothing}
 use Rattle.rules.specs.Schedulers.{Scheduler}
 use Rattle.rules.specs.Rules.{⟨_&_⟩⟶[_]⟨_&_⟩}
@@ -34,7 +35,7 @@ module _ (counts : Counts) (r : ℕ) (steps : List ℕ) where
   stepOf = stepAt counts steps
 
   abbrev at : ℕ → View
-  at = viewAt counts steps (sizeOf steps)
+  at = formAt counts steps
 
   module _ (few : counts .routines ≤ mostRoutines) where
     -- behind the last step the routine ends
