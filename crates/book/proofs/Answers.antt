@@ -1,4 +1,5 @@
--- An answer that is not `Accepted` has a number other than 0: by its variants.
+-- An answer that is not `Accepted` has a number other than 0.
+-- By its variants: the number of each refusal is its own, from 1 to 7.
 use Prim.Native.Nat.{ℕ}
 use mathlib.Core.Path.{_≡_}
 use mathlib.Core.List.{List, [], _∷_}

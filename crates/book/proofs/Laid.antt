@@ -1,4 +1,5 @@
--- Checks 1 to 3 tell nothing exactly where a book is laid out as document 01 says: each test of the verdict is a clause of `LaidOut`.
+-- Checks 1 to 3 tell nothing exactly where a book is laid out as document 01 says.
+-- Each test of the verdict is a clause of `LaidOut`: a test that tells nothing has passed, and says its clause.
 use Prim.Native.Nat.{ℕ}
 use mathlib.Core.Path.{_≡_, refl}
 use mathlib.Core.Bool.{Bool, true, false}
