@@ -6,7 +6,6 @@ use mathlib.Core.Bool.{Bool}
 use mathlib.Core.List.{List, [], _∷_, map, map-map}
 use mathlib.Core.Logic.{inl, inr}
 use native.Mathlib.Omega.{arith}
-use native.Mathlib.Decide.{ℕ-discrete}
 use lib.ListN.{length, getD, set, length-set, length-map}
 use lib.Seq.{getD-set-same, getD-set-other, map-set-same}
 use Rattle.layout.specs.Layout.{routinesOf}
@@ -16,7 +15,7 @@ use Rattle.game.specs.declared.Game.{Game}
 use Rattle.game.specs.Lines.{mostEntries, entriesOf, appended}
 use Rattle.game.specs.Game.{blank, routineAt, Sized}
 use Rattle.fitting.specs.Fits.{Fits}
-use Rattle.orders.proofs.Stores.{same-at}
+use Rattle.orders.proofs.Stores.{entry-set, same-at}
 use Rattle.round.specs.Actions.{kept, each, positionOf, inStage1, inStage4, getsStopped, staysListed, withoutOrders, atStart}
 use Rattle.round.proofs.Along.{All}
 use Rattle.round.proofs.Entries.{all-kept, kept-short, joined-below, joined-short}
@@ -53,26 +52,19 @@ module _ (change : Routine → Routine) where
     abbrev GivenAt : List Routine → ℕ → Type 0
     GivenAt xs r = getD xs r blank .stage ≡ stage
 
-    given-set : (xs : List Routine) (q : ℕ) → q < length xs → GivenAt (set xs q (change (getD xs q blank))) q
-    given-set xs q l = let x = change (getD xs q blank) in rw (getD-set-same xs q x blank l) (gives (getD xs q blank))
-
-    given-still : (rs : List ℕ) (xs : List Routine) (r : ℕ) → r < length xs → GivenAt xs r → GivenAt (each change rs xs) r
+    given-still : (rs : List ℕ) (xs : List Routine) (r : ℕ) → GivenAt xs r → GivenAt (each change rs xs) r
     unfolding each
-    given-still [] xs r l e = e
-    given-still (q ∷ qs) xs r l e =
+    given-still [] xs r e = e
+    given-still (q ∷ qs) xs r e =
         let x = change (getD xs q blank) in
-        given-still qs (set xs q x) r (rw length-set l)
-        (elim (ℕ-discrete r q) [
-          | yes d ↦ rw d (given-set xs q (rw d at l))
-          | no n ↦ rw (getD-set-other xs q r x blank n) e
-        ])
+        given-still qs (set xs q x) r (entry-set (λ y. y .stage ≡ stage) xs q x blank r (λ at. gives (getD xs q blank)) e)
 
     pub each-given : (rs : List ℕ) (xs : List Routine) (r : ℕ) → r < length xs → Among r rs → GivenAt (each change rs xs) r
     unfolding each
     each-given [] xs r l h = absurd h
     each-given (q ∷ qs) xs r l (inl d) =
         let x = change (getD xs q blank) in
-        given-still qs (set xs q x) r (rw length-set l) (rw d (given-set xs q (rw d at l)))
+        given-still qs (set xs q x) r (rw (d, getD-set-same xs q x blank (rw d at l)) (gives (getD xs q blank)))
     each-given (q ∷ qs) xs r l (inr h) =
         let x = change (getD xs q blank) in each-given qs (set xs q x) r (rw length-set l) h
 
