@@ -12,7 +12,7 @@ use borrow.Author.Tests.{le-leb, leb-true, leb-false, eq-eqb, ne-eqb}
 use lib.Dec.{eqb, leb, ltb}
 use lib.ListN.{length, getD, length-set, length-append}
 use lib.IntN.{ℤ}
-use lib.Seq.{getD-set-same, getD-set-other}
+use lib.Seq.{getD-set-same}
 use Rattle.numbers.specs.Choice.{if_then_else_}
 use Rattle.numbers.proofs.Tests.{clash, by-test}
 use Rattle.game.specs.declared.Game.{Game}
@@ -178,10 +178,8 @@ module _ (s : State) (e : ℕ) where
 
       comes : (t : Thing) → isThere s t ≡ false → isThere (withNumbers (given s e) l over) t ≡ true → Comes t (gave e k)
       comes (signal f) h there =
-          elim (ℕ-discrete f e) [
-            | yes m ↦ subst (λ i. Comes (signal i) (gave e k)) (sym m) Comes.signalGiven
-            | no n ↦ clash there (getD-set-other (s .present) e f true false n ∙ h)
-          ]
+          entry-set (λ b. b ≡ true → Comes (signal f) (gave e k)) (s .present) e true false f (λ m on. rw m Comes.signalGiven)
+          (λ on. clash on h) there
       comes (end r) h there = clash there h
       comes (number f j) h there =
           let (m, n) = new f j (leb-false j _ h) (leb-true j _ there) in
