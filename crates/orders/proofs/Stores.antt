@@ -1,4 +1,4 @@
--- A store in a list: what holds of each entry behind it, and what a map makes of the list and of its entries.
+-- A store in a list: what holds of each entry behind it and of one entry, and what a map makes of the list and of its entries.
 -- By the place that is stored to and the others, and by induction over the list.
 use Prim.Native.Nat.{ℕ, zero, suc, _<_}
 use mathlib.Core.Path.{_≡_, refl, sym, _∙_, ap}
