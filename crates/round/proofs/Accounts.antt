@@ -115,7 +115,7 @@ module _ (book : List ℕ) where
     signal-told e told (marks o) = rw o
     signal-told e told (gives o) = rw o
     signal-told e told (givesNumber o) = rw o
-    signal-told e told (finds g o h) = rw (tells-neither _ o .0)
+    signal-told e told (finds g o a h) = rw (tells-neither _ o .0)
 
     mark-told :
         (e : Effect) (told : List Happening) → Says (countsOf book) r (routineSteps book r) x s e told →
@@ -125,7 +125,7 @@ module _ (book : List ℕ) where
     mark-told e told (marks o) = rw o
     mark-told e told (gives o) = rw (no-mark _ o)
     mark-told e told (givesNumber o) = rw (no-mark _ o)
-    mark-told e told (finds g o h) = rw (tells-neither _ o .1)
+    mark-told e told (finds g o a h) = rw (tells-neither _ o .1)
 
   pub turn-signals : (r : ℕ) (s : State) → Balanced givesSignal (isSignalStep book) (turn book r s .told)
   turn-signals = turn-balanced givesSignal (isSignalStep book) signal-told (λ r. refl) (λ r p t. refl)

@@ -10,9 +10,7 @@ use lib.IntN.{ℤ}
 use lib.Signed.{_≤ℤ_}
 use Rattle.numbers.specs.declared.Sum.{Sum}
 use Rattle.numbers.specs.Numbers.{lowestCounter, highestCounter}
-use Rattle.kinds.specs.declared.Kind.the-variants as kind
 use Rattle.kinds.specs.declared.Step.{Step}
-use Rattle.kinds.specs.declared.Step.the-variants as step
 use Rattle.kinds.specs.declared.Counts.{Counts}
 use Rattle.kinds.specs.Steps.{opAt, stepAt}
 use Rattle.kinds.specs.Timed.{Timed}
@@ -24,11 +22,11 @@ use Rattle.round.specs.declared.Effect.{Effect}
 use Rattle.round.specs.declared.Effect.the-variants.{Nothing, Mark, Put, Add, Give, GiveNumber, Start, Stop, Suspend, Resume}
 use Rattle.round.specs.declared.Act.{Act}
 use Rattle.round.specs.declared.Act.the-variants.{Goes, Halts}
-use Rattle.round.specs.State.{State, Thing, signal, end, number, Happening, gave, ended, missing, past, marked, numbersOf, isThere}
+use Rattle.round.specs.State.{State, Thing, Happening, gave, ended, missing, past, marked, numbersOf, isThere}
 use Rattle.round.specs.Jumps.{sizeOf}
 use Rattle.round.specs.Ticks.{Tick, countAt}
 use Rattle.round.specs.Answers.{opMark}
-use Rattle.round.specs.Demand.{isSignalOp}
+use Rattle.round.specs.Demand.{isSignalOp, AsksFor, wait, waitFor, join, joinFor, read}
 use Rattle.round.proofs.Leads.{Leaves}
 
 -- "A counter .. holds −1,000,000 to 1,000,000."
@@ -75,13 +73,17 @@ isGiving (Resume t) = false
 abbrev pub isTelling : ℕ → Bool
 isTelling op = isSignalOp op || eqb op opMark
 
--- the thing that a step asks for; a timed step asks for it while some of its count is left
-pub data Asks (x : Position) : Step → Thing → Type 0 where
-  wait : {e : ℕ} → Asks x (step.Kind (kind.Wait e)) (signal e)
-  waitFor : {e n : ℕ} → 0 < countAt x n → Asks x (step.Kind (kind.WaitFor e n)) (signal e)
-  join : {t : ℕ} → Asks x (step.Kind (kind.Join t)) (end t)
-  joinFor : {t n : ℕ} → 0 < countAt x n → Asks x (step.Kind (kind.JoinFor t n)) (end t)
-  read : {e c k : ℕ} → Asks x (step.Kind (kind.Read e c k)) (number e k)
+-- some is left of the count of a timed step that asks for a thing
+abbrev SomeLeft : Position → {st : Step} {t : Thing} → AsksFor st t → Type 0
+SomeLeft x wait = Unit {0}
+SomeLeft x (waitFor {n = n}) = 0 < countAt x n
+SomeLeft x join = Unit {0}
+SomeLeft x (joinFor {n = n}) = 0 < countAt x n
+SomeLeft x read = Unit {0}
+
+-- a step asks for a thing, and goes no further if that isn't there: a timed step while some of its count is left
+abbrev pub Asks : Position → Step → Thing → Type 0
+Asks x st t = (asks : AsksFor st t) × SomeLeft x asks
 
 module _ (counts : Counts) (steps : List ℕ) where
   -- what fitting asks of a routine's position
@@ -101,8 +103,8 @@ module _ (counts : Counts) (r : ℕ) (steps : List ℕ) (x : Position) (s : Stat
         {e : ℕ} {v : ℤ} → isSignalOp (opAt steps (x .place)) ≡ true →
         Says (GiveNumber e v) (gave e (length (numbersOf s e) + 1) ∷ [])
     finds :
-        {e : Effect} {t : Thing} → isGiving e ≡ false → isTelling (opAt steps (x .place)) ≡ false → isThere s t ≡ true →
-        Says e (past r (x .place) t ∷ [])
+        {e : Effect} {t : Thing} → isGiving e ≡ false → isTelling (opAt steps (x .place)) ≡ false →
+        AsksFor (stepAt counts steps (x .place)) t → isThere s t ≡ true → Says e (past r (x .place) t ∷ [])
 
   -- why a step halts the turn, and what it tells
   pub data Stops : Ending → Position → List Happening → Type 0 where

@@ -1,28 +1,30 @@
 -- What a step that asks for a thing comes to: past it where the thing is there, and otherwise the turn's end. By cases on the step.
 use Prim.Native.Nat.{ℕ, _+_, _-_, _<_}
-use mathlib.Core.Path.{_≡_, refl}
-use mathlib.Core.Bool.{true, false}
+use mathlib.Core.Path.{_≡_, refl, sym, ap, _∙_}
+use mathlib.Core.Bool.{Bool, true, false}
 use mathlib.Core.List.{List, [], _∷_}
 use native.Mathlib.Omega.{arith}
 use borrow.Author.Tests.{ne-eqb}
 use lib.Dec.{eqb}
 use Rattle.numbers.specs.Choice.{if_then_else_}
+use Rattle.numbers.proofs.Tests.{by-test}
 use Rattle.kinds.specs.declared.Step.{Step}
 use Rattle.round.specs.declared.Ending.the-variants.{Missed, Continued}
 use Rattle.round.specs.declared.Position.{Position}
 use Rattle.round.specs.declared.Effect.{Effect}
 use Rattle.round.specs.declared.Effect.the-variants.{Nothing, Put}
 use Rattle.round.specs.declared.Act.the-variants.{Goes, Halts}
-use Rattle.round.specs.State.{State, Thing, signal, end, missing, past, numberAt, isThere}
-use Rattle.round.specs.Ticks.{telling, fresh, begunAt, countAt, tries, waitsFor, tickOf, tickAt}
-use Rattle.round.proofs.Acts.{Asks, wait, waitFor, join, joinFor, read}
+use Rattle.round.specs.State.{State, Thing, signal, end, Happening, missing, past, numberAt, isThere}
+use Rattle.round.specs.Ticks.{Tick, telling, fresh, begunAt, countAt, tries, waitsFor, tickOf, tickAt}
+use Rattle.round.specs.Demand.{AsksFor, wait, waitFor, join, joinFor, read}
+use Rattle.round.proofs.Acts.{Asks}
 
 -- a step asks for one thing
-pub asks-once : {x : Position} {st : Step} {t u : Thing} → Asks x st t → Asks x st u → t ≡ u
+pub asks-once : {st : Step} {t u : Thing} → AsksFor st t → AsksFor st u → t ≡ u
 asks-once wait wait = refl
-asks-once (waitFor l) (waitFor m) = refl
+asks-once waitFor waitFor = refl
 asks-once join join = refl
-asks-once (joinFor l) (joinFor m) = refl
+asks-once joinFor joinFor = refl
 asks-once read read = refl
 
 module _ (r : ℕ) (steps : List ℕ) (x : Position) (s : State) where
@@ -38,11 +40,11 @@ module _ (r : ℕ) (steps : List ℕ) (x : Position) (s : State) where
       {st : Step} {t : Thing} → Asks x st t →
       (e : Effect) × (y : Position) × (tickAt r steps x s st ≡ tries r steps x s t e y)
   unfolding tickOf
-  asks-tries wait = (Nothing, fresh (x .place), refl)
-  asks-tries (waitFor {e} {n} l) = (Nothing, begunAt (x .place) (countAt x n - 1), waits-for (signal e) (countAt x n) l)
-  asks-tries join = (Nothing, fresh (x .place), refl)
-  asks-tries (joinFor {t} {n} l) = (Nothing, begunAt (x .place) (countAt x n - 1), waits-for (end t) (countAt x n) l)
-  asks-tries (read {e} {c} {k}) = (Put c (numberAt s e k), fresh (x .place + 1), refl)
+  asks-tries (wait, l) = (Nothing, fresh (x .place), refl)
+  asks-tries (waitFor {e} {n}, l) = (Nothing, begunAt (x .place) (countAt x n - 1), waits-for (signal e) (countAt x n) l)
+  asks-tries (join, l) = (Nothing, fresh (x .place), refl)
+  asks-tries (joinFor {r = q} {n}, l) = (Nothing, begunAt (x .place) (countAt x n - 1), waits-for (end q) (countAt x n) l)
+  asks-tries (read {e} {c} {k}, l) = (Put c (numberAt s e k), fresh (x .place + 1), refl)
 
   pub asked-there :
       {st : Step} {t : Thing} → Asks x st t → isThere s t ≡ true →
@@ -54,3 +56,18 @@ module _ (r : ℕ) (steps : List ℕ) (x : Position) (s : State) where
       (y : Position) ×
       (tickAt r steps x s st ≡ telling (if s .eoi then Halts Missed y else Halts Continued x) (missing r (x .place) t ∷ []))
   asked-missing a h = let (e, y, tried) = asks-tries a in (y, rw h at tried)
+
+  -- so where the turn goes on, the thing was found
+  pub asked-goes :
+      {st : Step} {t : Thing} {q : ℕ} {e : Effect} {told : List Happening} → Asks x st t →
+      tickAt r steps x s st ≡ telling (Goes q e) told → told ≡ past r (x .place) t ∷ []
+  asked-goes {t = t} {q} {e} {told} a on =
+      let (f, y, tried) = asks-tries a in
+      by-test (λ (k : Tick). k ≡ telling (Goes q e) told → told ≡ past r (x .place) t ∷ []) (isThere s t)
+      (λ h same. sym (ap (λ (k : Tick). k .told) same))
+      (λ h same. absurd (halts (s .eoi) y (ap (λ (k : Tick). k .act) same)))
+      (sym tried ∙ on)
+    where
+      halts : (closing : Bool) (y : Position) → (if closing then Halts Missed y else Halts Continued x) ≡ Goes q e → ⊥
+      halts true y same = let z : _≡_ {A = ℕ} 0 1 = cc in omega arith
+      halts false y same = let z : _≡_ {A = ℕ} 0 1 = cc in omega arith

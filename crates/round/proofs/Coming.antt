@@ -136,7 +136,7 @@ module _ (counts : Counts) (r : ℕ) (steps : List ℕ) (fewSignals : counts .si
   goes-carries x s e told (Right.give l) (Says.gives {e = a} o) = carries-one r _ a 0 (omega arith) (give s a)
   goes-carries x s e told (Right.giveNumber l f) (Says.givesNumber {e = a} {v} o) =
       carries-one r _ a _ (omega arith) (give-number s a v)
-  goes-carries x s e told right (Says.finds h o k) = carries-none _ refl (effect-untouched s e) (effect-ungiven s e h)
+  goes-carries x s e told right (Says.finds h o q k) = carries-none _ refl (effect-untouched s e) (effect-ungiven s e h)
 
   pub ticks-carry : (n : ℕ) (x : Position) (s : State) → Carries s (ticks n counts r steps x s .told) (ticks n counts r steps x s .state)
   ticks-carry =

@@ -32,6 +32,7 @@ use Rattle.round.specs.Jumps.{sizeOf}
 use Rattle.round.specs.Ticks.{begunAt, countAt, tickAt, tick, fresh}
 use Rattle.round.specs.Rounds.{Ticks, follow, ticks, mostTicks, stageAfter, took, Played, isDone, listedIn}
 use Rattle.round.specs.Rounds.{ticksOf, turn, historyOf}
+use Rattle.round.specs.Demand.{AsksFor}
 use Rattle.round.specs.Timed.{hasThing, isPausing, TimedRound, CountsDown}
 use Rattle.round.proofs.Acts.{Asks}
 use Rattle.round.proofs.Timed.{timed-tick}
@@ -68,8 +69,8 @@ asked :
     (x : Position) (s : State) {st : Step} {n : ℕ} (timed : Timed st n) → 0 < countAt x n → hasThing s timed ≡ true →
     (t : Thing) × Asks x st t × (isThere s t ≡ true)
 asked x s restFor some h = clash h refl
-asked x s (waitFor {e}) some h = (signal e, Asks.waitFor some, h)
-asked x s (joinFor {r}) some h = (end r, Asks.joinFor some, h)
+asked x s (waitFor {e}) some h = (signal e, (AsksFor.waitFor, some), h)
+asked x s (joinFor {r}) some h = (end r, (AsksFor.joinFor, some), h)
 
 -- what is missing was missing before
 was-missing :

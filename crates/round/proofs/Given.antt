@@ -93,7 +93,7 @@ goes-gives counts r steps x s e told right (Says.silent quiet o) = no-number s e
 goes-gives counts r steps x s e told right (Says.marks o) = none refl
 goes-gives counts r steps x s e told right (Says.gives o) = none refl
 goes-gives counts r steps x s e told right (Says.givesNumber {e = a} {v} o) = one-number s a v
-goes-gives counts r steps x s e told right (Says.finds quiet o there) = no-number s e quiet
+goes-gives counts r steps x s e told right (Says.finds quiet o asks there) = no-number s e quiet
 
 module _ (book : List ℕ) where
   turn-gives : (r : ℕ) (s : State) → Gives s (turn book r s .told) (turn book r s .state)

@@ -57,7 +57,7 @@ module _ (test : Happening → Bool) where
     says-none mark give find (marks {n} h) = rw (mark n)
     says-none mark give find (gives {e} h) = rw (give e 0)
     says-none mark give find (givesNumber {e} h) = rw give
-    says-none mark give find (finds {t = t} g o h) = rw (find t)
+    says-none mark give find (finds {t = t} g o a h) = rw (find t)
 
     pub stops-none :
         test (ended r) ≡ false → ((t : Thing) → test (missing r (x .place) t) ≡ false) →

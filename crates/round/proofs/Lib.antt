@@ -60,6 +60,7 @@ pub mod Closed
 pub mod Demand
 pub mod Ends
 pub mod Misses
+pub mod Asked
 pub mod Trying
 pub mod Tried
 pub mod Counters

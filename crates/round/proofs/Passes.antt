@@ -52,7 +52,7 @@ module _
 
     -- a routine that lacks its thing waits for no other
     lacking : (s : State) (r p : ℕ) (t : Thing) → Waits book s r p t → Lacks book s r → isThere s t ≡ true → ⊥
-    lacking s r p t w x h = clash h (ap (isThere s) (asks-once (w .asks) (x .waits .asks)) ∙ x .missed)
+    lacking s r p t w x h = clash h (ap (isThere s) (asks-once (w .asks .0) (x .waits .asks .0)) ∙ x .missed)
 
     -- the same of the passes from a state on, in what is owed
     record Fair (s : State) (R : Round) : Type 0 where

@@ -24,7 +24,7 @@ use Rattle.kinds.specs.declared.Counts.{Counts}
 use Rattle.kinds.specs.declared.Form.the-variants.{Plain, IfOpening, ElseMarker, WhileOpening, EndMarker}
 use Rattle.kinds.specs.Steps.{opAt, stepAt}
 use Rattle.kinds.specs.Forms.{formOf}
-use Rattle.kinds.specs.Timed.{restFor, waitFor, joinFor}
+use Rattle.kinds.specs.Timed as timed
 use Rattle.kinds.proofs.Readable.{step-below}
 use Rattle.blocks.specs.Blocks.{View, stands, seen}
 use Rattle.blocks.proofs.Views.{view-seen}
@@ -34,13 +34,12 @@ use Rattle.round.specs.declared.Effect.the-variants.{Put}
 use Rattle.round.specs.State.{State, signal, end, number, numbersWith, numberAt}
 use Rattle.round.specs.Jumps.{sizeOf}
 use Rattle.round.specs.Ticks.{fresh, countAt, tickOf, tickAt, tick}
-use Rattle.round.specs.Demand.{isSignalOp}
+use Rattle.round.specs.Demand.{isSignalOp, wait, waitFor, join, joinFor, read}
 use Rattle.round.proofs.Forms.{opOf, step-op}
 use Rattle.round.proofs.Leads.{isHalt, nextBy, formAt, Leaves, leads, restOver}
 use Rattle.round.proofs.Acts.{InRange, EachNumber, Sorted, SortedTick, isTelling}
 use Rattle.round.proofs.Acts.{nothing, mark, put, add, give, giveNumber, start, stop, suspend, resume}
-use Rattle.round.proofs.Acts.{wait, join, read, silent, marks, gives, givesNumber, ends, rests}
-use Rattle.round.proofs.Acts as acts
+use Rattle.round.proofs.Acts.{silent, marks, gives, givesNumber, ends, rests}
 use Rattle.round.proofs.Fields.{FieldsRight, fields-right}
 use Rattle.round.proofs.Tries.{some-left, fresh-stands, begun-stands, tries-sorted, waits-sorted, waits-for-sorted}
 
@@ -114,19 +113,19 @@ module _ (counts : Counts) (r : ℕ) (steps : List ℕ) (x : Position) (s : Stat
   kind-sorted (kind.RestFor n) e f =
       by-test (λ a. Sorted counts r steps x s a []) (eqb (countAt x n) 0)
       (λ h. (rest-over n e (eqb-true (countAt x n) 0 h), nothing, silent refl (tells e)))
-      (λ h. (begun-stands counts steps x n (rw e restFor) (some-left (countAt x n) h), rests))
-  kind-sorted (kind.Wait a) e f = waits-sorted counts r steps x s (behind (form-there e)) (tells e) (signal a) (rw e wait)
+      (λ h. (begun-stands counts steps x n (rw e timed.restFor) (some-left (countAt x n) h), rests))
+  kind-sorted (kind.Wait a) e f = waits-sorted counts r steps x s (behind (form-there e)) (tells e) (signal a) (rw e (wait, tt))
   kind-sorted (kind.WaitFor a n) e f =
-      waits-for-sorted counts r steps x s (behind (form-there e)) (tells e) (signal a) (countAt x n)
-      (λ some. (rw e (acts.waitFor some), begun-stands counts steps x n (rw e waitFor) some))
-  kind-sorted (kind.Join t) e f = waits-sorted counts r steps x s (behind (form-there e)) (tells e) (end t) (rw e join)
+      waits-for-sorted counts r steps x s (behind (form-there e)) (tells e) (signal a) (countAt x n) (rw e waitFor)
+      (λ some. (rw e (waitFor, some), begun-stands counts steps x n (rw e timed.waitFor) some))
+  kind-sorted (kind.Join t) e f = waits-sorted counts r steps x s (behind (form-there e)) (tells e) (end t) (rw e (join, tt))
   kind-sorted (kind.JoinFor t n) e f =
-      waits-for-sorted counts r steps x s (behind (form-there e)) (tells e) (end t) (countAt x n)
-      (λ some. (rw e (acts.joinFor some), begun-stands counts steps x n (rw e joinFor) some))
+      waits-for-sorted counts r steps x s (behind (form-there e)) (tells e) (end t) (countAt x n) (rw e joinFor)
+      (λ some. (rw e (joinFor, some), begun-stands counts steps x n (rw e timed.joinFor) some))
   kind-sorted (kind.Read a c k) e f =
       tries-sorted counts r steps x s (behind (form-there e)) (tells e) (number a k) (Put c (numberAt s a k)) (fresh (x .place + 1))
-      (put (f .1) (λ ranged. number-in-range a (s .numbers) (k - 1) (ranged .numbers))) refl
-      (λ h. (rw e read, λ stood. fresh-stands counts steps (x .place + 1) (omega (arith, step-below counts steps (x .place) e))))
+      (rw e read) (put (f .1) (λ ranged. number-in-range a (s .numbers) (k - 1) (ranged .numbers))) refl
+      (λ h. (rw e (read, tt), λ stood. fresh-stands counts steps (x .place + 1) (omega (arith, step-below counts steps (x .place) e))))
   kind-sorted (kind.Start t) e f = (behind (form-there e), start f, silent refl (tells e))
   kind-sorted (kind.Stop t) e f = (behind (form-there e), stop f, silent refl (tells e))
   kind-sorted (kind.Suspend t) e f = (behind (form-there e), suspend f, silent refl (tells e))

@@ -20,6 +20,7 @@ use Rattle.round.specs.declared.Effect.the-variants.{Nothing}
 use Rattle.round.specs.State.{State, Thing, missing, isThere}
 use Rattle.round.specs.Jumps.{sizeOf}
 use Rattle.round.specs.Ticks.{fresh, begunAt, countAt, tries, lacks, waits, waitsFor}
+use Rattle.round.specs.Demand.{AsksFor}
 use Rattle.round.proofs.Leads.{Leaves}
 use Rattle.round.proofs.Acts.{Right, nothing, isGiving, Asks, Stands, silent}
 use Rattle.round.proofs.Acts.{finds, misses, continues, Sorted, SortedTick, isTelling}
@@ -64,21 +65,22 @@ module _ (counts : Counts) (r : ℕ) (steps : List ℕ) (x : Position) (s : Stat
   -- the turn may go on behind the step, which is no signal step
   module _ (on : Leaves counts steps x (x .place + 1)) (other : isTelling (opAt steps (x .place)) ≡ false) where
     pub tries-sorted :
-        (t : Thing) (e : Effect) (y : Position) → Right counts s e → isGiving e ≡ false → (isThere s t ≡ false → MayMiss t y) →
-        SortedTick counts r steps x s (tries r steps x s t e y)
-    tries-sorted t e y right quiet may =
-        by-test (SortedTick counts r steps x s) (isThere s t) (λ h. (on, right, finds quiet other h)) (λ h. lacks-sorted t y (may h) h)
+        (t : Thing) (e : Effect) (y : Position) → AsksFor (stepAt counts steps (x .place)) t → Right counts s e → isGiving e ≡ false →
+        (isThere s t ≡ false → MayMiss t y) → SortedTick counts r steps x s (tries r steps x s t e y)
+    tries-sorted t e y asks right quiet may =
+        by-test (SortedTick counts r steps x s) (isThere s t) (λ h. (on, right, finds quiet other asks h))
+        (λ h. lacks-sorted t y (may h) h)
 
     pub waits-sorted : (t : Thing) → Asks x (stepAt counts steps (x .place)) t → SortedTick counts r steps x s (waits r steps x s t)
     waits-sorted t asks =
-        tries-sorted t Nothing (fresh (x .place)) nothing refl
+        tries-sorted t Nothing (fresh (x .place)) (asks .0) nothing refl
         (λ h. (asks, λ stood. fresh-stands counts steps (x .place) (stood .inside)))
 
-    -- with the count k: a thing is asked for while some of it is left
+    -- with the count k: a thing may be missed while some of it is left
     pub waits-for-sorted :
-        (t : Thing) (k : ℕ) → (0 < k → MayMiss t (begunAt (x .place) (k - 1))) →
+        (t : Thing) (k : ℕ) → AsksFor (stepAt counts steps (x .place)) t → (0 < k → MayMiss t (begunAt (x .place) (k - 1))) →
         SortedTick counts r steps x s (waitsFor r steps x s t k)
     unfolding waitsFor
-    waits-for-sorted t k may =
+    waits-for-sorted t k asks may =
         by-test (SortedTick counts r steps x s) (eqb k 0 && not (isThere s t)) (λ h. (on, nothing, silent refl other))
-        (λ h. tries-sorted t Nothing (begunAt (x .place) (k - 1)) nothing refl (λ none. may (some-left k (rw (none, and-true) at h))))
+        (λ h. tries-sorted t Nothing (begunAt (x .place) (k - 1)) asks nothing refl (λ none. may (some-left k (rw (none, and-true) at h))))

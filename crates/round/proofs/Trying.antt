@@ -156,7 +156,7 @@ module _ (book : List ℕ) (a : Accepted book) where
     says-order x s (Says.marks o) = (tt, (tt, tt))
     says-order x s (Says.gives o) = (tt, (tt, tt))
     says-order x s (Says.givesNumber o) = (tt, (tt, tt))
-    says-order x s (Says.finds h o k) = (tt, (inl k, tt))
+    says-order x s (Says.finds h o q k) = (tt, (inl k, tt))
 
     stop-order :
         (x : Position) (s : State) {how : Ending} {y : Position} {told : List Happening} → Stops (countsOf book) r steps x s how y told →

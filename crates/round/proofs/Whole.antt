@@ -1,6 +1,5 @@
--- The history of a round leaves nothing out and is true: what its states and turns say happened is told, as often as it happened, a try
--- finds its thing exactly if that was there from the start or came before, and the steps told as completed, in order, make the counters
--- and numbers behind the round of the counters before it.
+-- The history of a round is true and leaves out no signal, mark, end or miss, as the record of specs/Whole.antt says. Its fields, put
+-- together.
 use Prim.Native.Nat.{ℕ}
 use mathlib.Core.List.{List}
 use Rattle.book.specs.Accepted.{Accepted}
@@ -11,6 +10,7 @@ use Rattle.round.specs.Whole.{ToldWhole}
 use Rattle.round.proofs.Accounts.{signals-completed, marks-completed}
 use Rattle.round.proofs.Ends.{ends-counted, ended-as-told}
 use Rattle.round.proofs.Misses.{misses-told}
+use Rattle.round.proofs.Asked.{asked, completed-by-finding}
 use Rattle.round.proofs.Tried.{comes, came, found, lacked}
 use Rattle.round.proofs.Counters.{contents-made}
 
@@ -24,6 +24,8 @@ told-whole book a g z f =
       misses = misses-told book a g z f;
       comes = comes book a g z f;
       came = came book a g z f;
+      asked = asked book g;
+      completedByFinding = completed-by-finding book g;
       found = found book a g z f;
       lacked = lacked book a g z f;
       contents = contents-made book a g z f;

@@ -6,6 +6,9 @@ use mathlib.Core.Bool.{Bool, true, false, _||_}
 use mathlib.Core.List.{List, _∷_, _++_}
 use mathlib.Core.Logic.{_⊎_}
 use lib.Dec.{eqb}
+use Rattle.kinds.specs.declared.Kind.the-variants as kind
+use Rattle.kinds.specs.declared.Step.{Step}
+use Rattle.kinds.specs.declared.Step.the-variants as step
 use Rattle.kinds.specs.Steps.{opAt}
 use Rattle.book.specs.Book.{routineSteps}
 use Rattle.game.specs.declared.Game.{Game}
@@ -48,6 +51,15 @@ endsRoutine (missing r p t) = false
 endsRoutine (past r p t) = false
 endsRoutine (marked r n) = false
 endsRoutine (completed r p) = false
+
+-- "A try of op 8 to 12 finds its signal, the joined routine's end or the signal's k-th number missing if it goes no further because that
+-- isn't there.": what a step asks for
+pub data AsksFor : Step → Thing → Type 0 where
+  wait : {e : ℕ} → AsksFor (step.Kind (kind.Wait e)) (signal e)
+  waitFor : {e n : ℕ} → AsksFor (step.Kind (kind.WaitFor e n)) (signal e)
+  join : {r : ℕ} → AsksFor (step.Kind (kind.Join r)) (end r)
+  joinFor : {r n : ℕ} → AsksFor (step.Kind (kind.JoinFor r n)) (end r)
+  read : {e c k : ℕ} → AsksFor (step.Kind (kind.Read e c k)) (number e k)
 
 -- "It comes later if, in the same round after that try, a step gives the signal, the joined routine ends, or the signal's k-th number is
 -- given."
