@@ -1,25 +1,31 @@
--- The steps that a turn may take and the passes that a round may take are enough. A pass that sets the flag gives a signal or ends a
--- routine, so it pays from what is left of the listed routines' signal steps and of the routines themselves; at the start that is at most
--- 1,024 and 64.
-use Prim.Native.Nat.{ℕ, _+_, _<_, _≤_}
-use mathlib.Core.Path.{refl}
+-- The steps that a turn may take and the passes that a round may take are enough, so that more would change nothing. A pass that sets the
+-- flag gives a signal or ends a routine, so it pays from what is left of the listed routines' signal steps and of the routines themselves;
+-- at the start that is at most 1,024 and 64.
+use Prim.Native.Nat.{ℕ, zero, suc, _+_, _<_, _≤_}
+use mathlib.Core.Path.{_≡_, refl}
 use mathlib.Core.Bool.{Bool}
 use mathlib.Core.List.{List, [], _∷_}
+use mathlib.Core.Logic.{inl, inr}
 use native.Mathlib.Omega.{arith}
 use lib.ListN.{length}
 use Rattle.numbers.proofs.Tests.{by-test}
-use Rattle.layout.specs.Layout.{mostRoutines, routinesOf, stepCount}
+use Rattle.kinds.specs.declared.Counts.{Counts}
+use Rattle.layout.specs.Layout.{mostRoutines, routinesOf, stepCount, countsOf}
+use Rattle.book.specs.Book.{routineSteps}
 use Rattle.book.specs.Accepted.{Accepted}
 use Rattle.game.specs.declared.Game.{Game}
 use Rattle.game.specs.Game.{Sized}
 use Rattle.fitting.specs.Fits.{Fits}
 use Rattle.fitting.proofs.Decides.{fit-lists}
 use Rattle.round.specs.declared.Position.{Position}
+use Rattle.round.specs.declared.Act.{Act}
+use Rattle.round.specs.declared.Act.the-variants.{Goes, Halts}
 use Rattle.round.specs.State.{State}
 use Rattle.round.specs.History.{countBelow, stepsIn, howMany}
 use Rattle.round.specs.Actions.{atStart}
-use Rattle.round.specs.Rounds.{mostPasses, listedIn, turn, pass}
-use Rattle.round.specs.Enough.{Enough}
+use Rattle.round.specs.Ticks.{tick, fresh, effectOn}
+use Rattle.round.specs.Rounds.{follow, ticks, mostPasses, listedIn, turn, pass, instant, round}
+use Rattle.round.specs.Enough.{IfItGoesOn, InTime, RoundEnds, Enough}
 use Rattle.round.specs.Demand.{isSignalStep, givesSignal, endsRoutine}
 use Rattle.round.proofs.Along.{All}
 use Rattle.round.proofs.Sound.{Sound}
@@ -35,6 +41,36 @@ use Rattle.round.proofs.Accounts.{turn-signals}
 use Rattle.round.proofs.BookSteps.{few-steps}
 use Rattle.round.proofs.Passes.{round-ends}
 use Rattle.round.proofs.Lawful.{turn-laws}
+
+-- where n steps are enough for a turn, it comes out the same with more
+module _ (counts : Counts) (r : ℕ) (steps : List ℕ) where
+  more-ticks :
+      (k n : ℕ) → n ≤ k → (x : Position) (s : State) → InTime n counts r steps x s →
+      ticks k counts r steps x s ≡ ticks n counts r steps x s
+  unfolding ticks InTime
+  more-ticks k zero l x s h = absurd h
+  more-ticks zero (suc n) l x s h = absurd (omega arith)
+  more-ticks (suc k) (suc n) l x s h =
+      let t = tick counts r steps x s in
+      behind (t .act) h (λ q u. more-ticks k n (omega arith) (fresh q) u)
+    where
+      behind :
+          (act : Act) → IfItGoesOn act s (λ y u. InTime n counts r steps y u) →
+          ((q : ℕ) (u : State) → InTime n counts r steps (fresh q) u →
+          ticks k counts r steps (fresh q) u ≡ ticks n counts r steps (fresh q) u) →
+          follow r (x .place) act (tick counts r steps x s .told) s (λ q u. ticks k counts r steps (fresh q) u) ≡
+          follow r (x .place) act (tick counts r steps x s .told) s (λ q u. ticks n counts r steps (fresh q) u)
+      behind (Goes q e) h on = rw (on q (effectOn e s) h)
+      behind (Halts how y) h on = refl
+
+-- where n passes are enough for a round, it comes out the same with more
+more-passes :
+    (book : List ℕ) (k n : ℕ) → n ≤ k → (rs : List ℕ) (s : State) → RoundEnds book n rs s → instant book k rs s ≡ instant book n rs s
+unfolding instant RoundEnds
+more-passes book k zero l rs s h = absurd h
+more-passes book zero (suc n) l rs s h = absurd (omega arith)
+more-passes book (suc k) (suc n) l rs s (inl done) = rw done
+more-passes book (suc k) (suc n) l rs s (inr rest) = rw (more-passes book k n (omega arith) rs _ (rest .1))
 
 -- a routine that takes turns may still end
 abbrev mayEnd : ℕ → Position → ℕ
@@ -88,15 +124,19 @@ module _ (book : List ℕ) (a : Accepted book) where
         omega (arith, entries-length (atStart g .game .listed) (fit-lists book (atStart g .game) (start .fits) .0) (start .sized .listed))
 
     pub enough : Enough book g
-    unfolding atStart
+    unfolding atStart round
     enough =
         let all = at-start-listed book g (a .laid .counts) z f in
         let set = isSignalStep book in
         let few = few-steps book a set (listedIn g) (listed-distinct book g a z f) all in
+        let passes =
+        round-ends (turn-laws book a) (listedIn g) all (budget (listedIn g)) (pass-spends (listedIn g) all)
+        (λ s. refl) mostPasses (atStart g) (at-start-sound book g a z f) refl refl
+        (omega (arith, few, total-left set (listedIn g) all (atStart g), total-ends (listedIn g) (atStart g), few-listed)) in
         record {
           turns = routine-in-time book a;
-          passes =
-              round-ends (turn-laws book a) (listedIn g) all (budget (listedIn g)) (pass-spends (listedIn g) all)
-              (λ s. refl) mostPasses (atStart g) (at-start-sound book g a z f) refl refl
-              (omega (arith, few, total-left set (listedIn g) all (atStart g), total-ends (listedIn g) (atStart g), few-listed));
+          passes = passes;
+          moreTicks = λ r l x s m.
+              more-ticks (countsOf book) r (routineSteps book r) _ _ (omega arith) x s (routine-in-time book a r l x s);
+          morePasses = λ m. more-passes book _ _ (omega arith) (listedIn g) (atStart g) passes;
         }

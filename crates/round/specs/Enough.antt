@@ -1,5 +1,5 @@
 -- That the steps which a turn may take, and the passes which a round may take, are never what stops them.
-use Prim.Native.Nat.{ℕ, zero, suc, _<_}
+use Prim.Native.Nat.{ℕ, zero, suc, _+_, _<_}
 use mathlib.Core.Path.{_≡_}
 use mathlib.Core.Bool.{true, false}
 use mathlib.Core.List.{List}
@@ -14,7 +14,7 @@ use Rattle.round.specs.declared.Act.the-variants.{Goes, Halts}
 use Rattle.round.specs.State.{State}
 use Rattle.round.specs.Actions.{atStart}
 use Rattle.round.specs.Ticks.{tick, fresh, effectOn}
-use Rattle.round.specs.Rounds.{mostTicks, allDone, again, mostPasses, listedIn, pass}
+use Rattle.round.specs.Rounds.{ticks, mostTicks, allDone, again, mostPasses, listedIn, pass, instant, round}
 
 -- what is asked of the position and the state behind a step, if the turn goes on
 abbrev pub IfItGoesOn : Act → State → (Position → State → Type 0) → Type 0
@@ -40,3 +40,8 @@ module _ (book : List ℕ) where
         (r : ℕ) → r < routinesOf book → (x : Position) (s : State) →
         InTime (mostTicks (routineSteps book r)) (countsOf book) r (routineSteps book r) x s
     pub passes : RoundEnds mostPasses (listedIn g) (atStart g)
+    -- so a turn that might take m steps more, and a round that might take m passes more, come out the same
+    pub moreTicks :
+        (r : ℕ) → r < routinesOf book → (x : Position) (s : State) (m : ℕ) → let steps = routineSteps book r in
+        ticks (mostTicks steps + m) (countsOf book) r steps x s ≡ ticks (mostTicks steps) (countsOf book) r steps x s
+    pub morePasses : (m : ℕ) → instant book (mostPasses + m) (listedIn g) (atStart g) ≡ round book g
