@@ -13,6 +13,7 @@ use Rattle.round.specs.Rounds.{took, allDone, again, listedIn, turn, pas
 use Rattle.round.specs.Demand.{givesSignal, endsRoutine}
 
 module _ (book : List ℕ) where
+  -- Rules 15, 26 and 31; "A join left waiting asks again at every try".
   -- a turn of routine r from state s that is to be continued stopped at a place since a thing was missing; a turn from a state u in which
   -- eoi is not set, the thing is still missing and the routine has the stage, the suspension and the position that the first turn left it
   -- leaves u as it is and is to be continued
@@ -31,6 +32,8 @@ module _ (book : List ℕ) where
     first : Begins g (atStart g)
     next : {s : State} → Begins g s → allDone (pass book (listedIn g) s .turns) ≡ false → Begins g (again (pass book (listedIn g) s .state))
 
+  -- Rules 36 to 38; of eoi section 3.2 says: "Then, the threads cooperate, which leads to a situation where all non-suspended threads in
+  -- actual are terminated, or have cooperated."
   -- what holds of a pass that begins with eoi set: it gives no signal and ends no routine, and no turn of it is to be continued, so it is
   -- the round's last; a round may also end without such a pass, by rule 37
   pub record Closes (g : Game) (s : State) : Type 0 where

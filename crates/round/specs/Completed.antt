@@ -54,7 +54,7 @@ pub record CompletedOnce (book : List ℕ) (g : Game) : Type 0 where
   -- writes at most as many marks as they have mark steps, and the buffer that 10 asks for holds them,
   pub marks : length (marksIn (historyOf book g)) ≤ stepsIn book (isMarkStep book) (listedIn g)
   pub space : numbersPerMark * length (marksIn (historyOf book g)) ≤ spaceFor book
-  -- gives at most 1,024 numbers, and 11 is never told,
+  -- gives at most 1,024 numbers,
   pub numbers : numbersGiven (historyOf book g) ≤ mostNumbers
   -- and adds to counters at most 1,024 times, the most steps that a book has
   pub additions : howMany (completes (isAddition book)) (historyOf book g) ≤ mostSteps

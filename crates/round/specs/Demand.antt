@@ -69,7 +69,7 @@ pub data Comes : Thing → Happening → Type 0 where
   numberGiven : {e k : ℕ} → Comes (number e k) (gave e k)
 
 -- "The routine is past the step once a later try in that round finds the thing and completes the step; a reading that rests isn't past.":
--- of routine r, its step at place p and thing t, somewhere in a history
+-- of routine r, its step at place p and thing t, somewhere in a history; that a step is completed is told first, and then what it found
 pub data IsPast (r p : ℕ) (t : Thing) : List Happening → Type 0 where
   here : {told : List Happening} → IsPast r p t (completed r p ∷ past r p t ∷ told)
   later : {h : Happening} {told : List Happening} → IsPast r p t told → IsPast r p t (h ∷ told)
@@ -81,15 +81,16 @@ CatchesUp told =
     (before after : List Happening) (r p : ℕ) (t : Thing) → told ≡ before ++ (missing r p t ∷ after) →
     Somewhere (Comes t) after → IsPast r p t after
 
--- a round from the game as lent: "Passes: the number in the round's answer.", and the game given back
+-- "All this is one claim about the whole round.": a round from the game as lent, "Passes: the number in the round's answer.", and the game
+-- given back
 pub record Demand3 (book : List ℕ) (lent : Game) (passes : ℕ) (back : Game) : Type 0 where
-  -- passes ≤ 2 + signals given by steps + routines ended
+  -- "passes ≤ 2 + signals given by steps + routines ended"
   pub fewPasses : passes ≤ 2 + howMany givesSignal (historyOf book lent) + howMany endsRoutine (historyOf book lent)
-  -- those signals ≤ the signal steps of the listed routines; "Listed, suspended: once the eight actions are done."
+  -- "those signals ≤ the signal steps of the listed routines"; "Listed, suspended: once the eight actions are done."
   pub fewSignals : howMany givesSignal (historyOf book lent) ≤ stepsIn book (isSignalStep book) (listedIn lent)
-  -- at its end every listed routine that isn't suspended has rested or ended; "rested or ended is stage 2 or 3 in the game given back"
+  -- "at its end every listed routine that isn't suspended has rested or ended"; "rested or ended is stage 2 or 3 in the game given back"
   pub restedOrEnded :
       (r : ℕ) → Among r (listedIn lent) → routineAt (atStart lent .game) r .suspended ≡ false →
       (routineAt back r .stage ≡ stage.rested) ⊎ (routineAt back r .stage ≡ stage.ended)
-  -- each that found something missing which came later in that round went past that step in it
+  -- "each that found something missing which came later in that round went past that step in it"
   pub caughtUp : CatchesUp (historyOf book lent)

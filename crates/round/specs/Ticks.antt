@@ -97,20 +97,30 @@ module _ (r : ℕ) (steps : List ℕ) (x : Position) (s : State) where
       telling (onward (GiveNumber e (counterAt (s .game) c))) (gave e (length (numbersOf s e) + 1) ∷ [])
   -- rule 11; "Op 6 .. leaves the place on the step that follows it in the book"
   tickOf kind.Rest = telling (Halts Rested (fresh (x .place + 1))) []
+  -- rules 23 and 24
   tickOf (kind.RestFor n) = telling (restsFor (countAt x n)) []
+  -- rules 14 to 16
   tickOf (kind.Wait e) = waits (signal e)
+  -- rules 25 to 27
   tickOf (kind.WaitFor e n) = waitsFor (signal e) (countAt x n)
+  -- rules 17 and 18
   tickOf (kind.Join t) = waits (end t)
+  -- rules 28 and 29
   tickOf (kind.JoinFor t n) = waitsFor (end t) (countAt x n)
+  -- rules 30 to 32
   tickOf (kind.Read e c k) = reads e c k
   -- rules 19 to 22
   tickOf (kind.Start t) = telling (onward (Start t)) []
   tickOf (kind.Stop t) = telling (onward (Stop t)) []
   tickOf (kind.Suspend t) = telling (onward (Suspend t)) []
   tickOf (kind.Resume t) = telling (onward (Resume t)) []
+  -- rules 9 and 10
   tickOf (kind.If c relation n) = telling (tests c relation n) []
+  -- "A place on an else stands for the end of the first block": past its if
   tickOf kind.Else = telling (Goes (pastPartner steps (x .place)) Nothing) []
+  -- rules 5 and 6
   tickOf (kind.While c relation n) = telling (tests c relation n) []
+  -- behind a while's body back to its test, by rule 7, and otherwise past its if
   tickOf kind.End = telling (Goes (fromEnd steps (x .place)) Nothing) []
 
   -- the routine's end, behind its last step: "An ended routine's place is its step count."
