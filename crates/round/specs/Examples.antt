@@ -1,5 +1,5 @@
--- Rounds by evaluation: the order of the refusals and what they hand back, what happens in a round of T3's book, the buffer beyond the
--- marks, the place behind a rest that ends a first block, and steps that would not end.
+-- Rounds by evaluation: the order of the refusals and what they hand back, what happens in the rounds of T3's book, the buffer beyond
+-- the marks, the place behind a rest that ends a first block, and steps that would not end.
 use Prim.Native.Nat.{ℕ}
 use mathlib.Core.Path.{_≡_, refl}
 use mathlib.Core.List.{List, [], _∷_, map}
@@ -73,6 +73,10 @@ examples =
     ∷ isTold t3 (first t3) (pos 5 ∷ []) 10
     ∷ []
 
+-- what T3's first round tells: routine 0 starts routine 1, and misses its signal in both passes
+abbrev pub toldFirst : List Happening
+toldFirst = completed 0 0 ∷ missing 0 1 (signal 0) ∷ missing 0 1 (signal 0) ∷ []
+
 -- what T3's second round tells, and how each turn came out: routine 0 waits, routine 1 signals and ends, routine 0 goes past, marks and
 -- ends, and routine 1 is passed over
 abbrev pub told : List Happening
@@ -88,6 +92,7 @@ turns = took Continued ∷ took Ended ∷ took Ended ∷ passedOver ∷ []
 -- leaves the place on the else; and the steps of the while that does not pause run out, none of them the last
 pub as-told :
     (map (λ e. answer (e .book) (e .game) (e .buffer)) examples ≡ map (λ e. e .tells) examples)
+    × (round t3 (first t3) .played .told ≡ toldFirst)
     × (round t3 afterOne .played .told ≡ told)
     × (round t3 afterOne .played .turns ≡ turns)
     × (answer t3 afterOne (pos 5 ∷ pos 6 ∷ pos 8 ∷ []) .buffer ≡ pos 0 ∷ pos 7 ∷ pos 8 ∷ [])
@@ -99,4 +104,4 @@ unfolding answer roundVerdict written marksIn countBelow round instant pass turn
     slotFits entryFits lineFits countersFit signalsFit isIn allBelow anyBelow bookVerdict layoutVerdict directoryVerdict stepsVerdict
     nestingVerdict pausingVerdict routineWalk routinePart routineOf stepOf blockBy partnerOf viewAt stepAt decoded rowOf stepsBefore
     firstRefusal joined
-as-told = (refl, refl, refl, refl, refl, refl, refl)
+as-told = (refl, refl, refl, refl, refl, refl, refl, refl)
