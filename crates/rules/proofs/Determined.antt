@@ -16,9 +16,13 @@ use Rattle.rules.specs.Rules.{rule13, rule14, rule15, rule16, rule17, ru
 use Rattle.rules.specs.Rules.{rule24, rule25, rule26, rule27, rule28, rule29, rule29-again, rule30, rule31, rule32}
 use Rattle.rules.specs.Instants.{Thread, rule33, rule34, InTurn, none, next, ExecutionStep, rule35, rule36, Instant, rule37, rule38}
 
--- what a derivation comes to, as one value
-data Result : Type 0 where
-  gives : Status → Instruction → Scheduler → Result
+-- what a derivation comes to, as one value: a status, a Boolean or a number; the instructions left; the scheduler
+data Result (A B : Type 0) : Type 0 where
+  gives : A → B → Scheduler → Result A B
+
+-- a fact by its name; a `let` would write it out wherever `cc` uses it, which is slow for an induction hypothesis
+given : {A P : Type 0} → A → (A → P) → P
+given h f = f h
 
 -- a wait with no instant left terminates
 expired :
@@ -42,18 +46,18 @@ same-result :
     gives α j τ ≡ gives β k ω
 same-result (rule1 a) (rule1 b) e = let h = same-call a b e in cc
 same-result rule2 rule2 e = cc
-same-result (rule3 a c) (rule3 b d) e = let h = same-result a b e in same-result c d (cc)
-same-result (rule3 a c) (rule4 b m) e = let h = same-result a b e in absurd (m (cc))
-same-result (rule4 a n) (rule3 b d) e = let h = same-result a b e in absurd (n (cc))
-same-result (rule4 a n) (rule4 b m) e = let h = same-result a b e in cc
+same-result (rule3 a c) (rule3 b d) e = given (same-result a b e) (λ h. same-result c d (cc))
+same-result (rule3 a c) (rule4 b m) e = given (same-result a b e) (λ h. absurd (m (cc)))
+same-result (rule4 a n) (rule3 b d) e = given (same-result a b e) (λ h. absurd (n (cc)))
+same-result (rule4 a n) (rule4 b m) e = given (same-result a b e) (λ h. cc)
 same-result (rule5 x) (rule5 y) e = cc
 same-result (rule5 x) (rule6 y b) e = absurd (x (rw (← e) at y))
 same-result (rule6 x a) (rule5 y) e = absurd (y (rw e at x))
 same-result (rule6 x a) (rule6 y b) e = same-result a b e
-same-result (rule7 a c) (rule7 b d) e = let h = same-result a b e in same-result c d (cc)
-same-result (rule7 a c) (rule8 b m) e = let h = same-result a b e in absurd (m (cc))
-same-result (rule8 a n) (rule7 b d) e = let h = same-result a b e in absurd (n (cc))
-same-result (rule8 a n) (rule8 b m) e = let h = same-result a b e in cc
+same-result (rule7 a c) (rule7 b d) e = given (same-result a b e) (λ h. same-result c d (cc))
+same-result (rule7 a c) (rule8 b m) e = given (same-result a b e) (λ h. absurd (m (cc)))
+same-result (rule8 a n) (rule7 b d) e = given (same-result a b e) (λ h. absurd (n (cc)))
+same-result (rule8 a n) (rule8 b m) e = given (same-result a b e) (λ h. cc)
 same-result (rule9 x a) (rule9 y b) e = same-result a b e
 same-result (rule9 x a) (rule10 y b) e = absurd (y (rw e at x))
 same-result (rule10 x a) (rule9 y b) e = absurd (x (rw (← e) at y))
@@ -75,10 +79,10 @@ same-result (rule17 x) (rule18 y b) e = cc
 same-result (rule17 x) (rule18-again y b m) e = cc
 same-result (rule18 x a) (rule17 y) e = cc
 same-result (rule18 x a) (rule18 y b) e = same-result a b e
-same-result (rule18 x a) (rule18-again y b m) e = let h = same-result a b e in absurd (m (cc))
+same-result (rule18 x a) (rule18-again y b m) e = given (same-result a b e) (λ h. absurd (m (cc)))
 same-result (rule18-again x a n) (rule17 y) e = cc
-same-result (rule18-again x a n) (rule18 y b) e = let h = same-result a b e in absurd (n (cc))
-same-result (rule18-again x a n) (rule18-again y b m) e = let h = same-result a b e in cc
+same-result (rule18-again x a n) (rule18 y b) e = given (same-result a b e) (λ h. absurd (n (cc)))
+same-result (rule18-again x a n) (rule18-again y b m) e = given (same-result a b e) (λ h. cc)
 same-result rule19 rule19 e = cc
 same-result rule20 rule20 e = cc
 same-result rule21 rule21 e = cc
@@ -106,11 +110,11 @@ same-result (rule28 (inl x)) (rule29-again y b m) e = cc
 same-result (rule28 (inr x)) (rule29-again y b m) e = absurd (m (expired b x))
 same-result (rule29 x (rule25 u)) (rule28 y) e = cc
 same-result (rule29 x a) (rule29 y b) e = same-result a b e
-same-result (rule29 x a) (rule29-again y b m) e = let h = same-result a b e in absurd (m (cc))
+same-result (rule29 x a) (rule29-again y b m) e = given (same-result a b e) (λ h. absurd (m (cc)))
 same-result (rule29-again x a n) (rule28 (inl y)) e = cc
 same-result (rule29-again x a n) (rule28 (inr y)) e = absurd (n (expired a y))
-same-result (rule29-again x a n) (rule29 y b) e = let h = same-result a b e in absurd (n (cc))
-same-result (rule29-again x a n) (rule29-again y b m) e = let h = same-result a b e in cc
+same-result (rule29-again x a n) (rule29 y b) e = given (same-result a b e) (λ h. absurd (n (cc)))
+same-result (rule29-again x a n) (rule29-again y b m) e = given (same-result a b e) (λ h. cc)
 same-result (rule30 x) (rule30 y) e = cc
 same-result (rule30 x) (rule31 y w) e = absurd (omega (arith, rw e at x))
 same-result (rule30 x) (rule32 y w) e = absurd (omega (arith, rw e at x))
@@ -127,21 +131,16 @@ pub determined :
     (α ≡ β) × (j ≡ k) × (τ ≡ υ)
 determined a b = let h = same-result a b refl in (cc, cc, cc)
 
--- what threads or an execution step come to, and what an instant does
-data Outcome : Type 0 where
-  leads : Bool → (ℕ → Instruction) → Scheduler → Outcome
-  ends : ℕ → (ℕ → Instruction) → Scheduler → Outcome
-
 same-thread :
     {t : ℕ} {run run′ other other′ : ℕ → Instruction} {σ τ υ ω : Scheduler} {b c : Bool} →
     Thread t run σ b run′ τ → Thread t other υ c other′ ω → run ≡ other → σ ≡ υ →
-    leads b run′ τ ≡ leads c other′ ω
+    gives b run′ τ ≡ gives c other′ ω
 same-thread (rule33 x) (rule33 y) f e = cc
 same-thread (rule33 (inl x)) (rule34 y w b) f e = cc
 same-thread (rule33 (inr x)) (rule34 y w b) f e = absurd (x (cc))
 same-thread (rule34 x u a) (rule33 (inl y)) f e = cc
 same-thread (rule34 x u a) (rule33 (inr y)) f e = absurd (y (cc))
-same-thread (rule34 x u a) (rule34 y w b) f e = let h = same-result a (rw (← f) at b) e in cc
+same-thread (rule34 x u a) (rule34 y w b) f e = given (same-result a (rw (← f) at b) e) (λ h. cc)
 
 pub thread-determined :
     {t : ℕ} {run run′ run″ : ℕ → Instruction} {σ τ υ : Scheduler} {b c : Bool} →
@@ -152,14 +151,14 @@ thread-determined a b = let h = same-thread a b refl refl in (cc, cc, cc)
 same-turns :
     {ts : List ℕ} {run run′ other other′ : ℕ → Instruction} {σ τ υ ω : Scheduler} {b c : Bool} →
     InTurn ts run σ b run′ τ → InTurn ts other υ c other′ ω → run ≡ other → σ ≡ υ →
-    leads b run′ τ ≡ leads c other′ ω
+    gives b run′ τ ≡ gives c other′ ω
 same-turns none none f e = cc
-same-turns (next a c) (next b d) f e = let h = same-thread a b f e in let g = same-turns c d (cc) (cc) in cc
+same-turns (next a c) (next b d) f e = given (same-thread a b f e) (λ h. given (same-turns c d (cc) (cc)) (λ g. cc))
 
 same-step :
     {run run′ other other′ : ℕ → Instruction} {σ τ υ ω : Scheduler} {b c : Bool} →
     ExecutionStep run σ b run′ τ → ExecutionStep other υ c other′ ω → run ≡ other → σ ≡ υ →
-    leads b run′ τ ≡ leads c other′ ω
+    gives b run′ τ ≡ gives c other′ ω
 same-step (rule35 x) (rule35 y) f e = cc
 same-step (rule35 x) (rule36 y b) f e = cc
 same-step (rule36 x a) (rule35 y) f e = cc
@@ -174,11 +173,11 @@ step-determined a b = let h = same-step a b refl refl in (cc, cc, cc)
 same-instant :
     {n m : ℕ} {run run′ other other′ : ℕ → Instruction} {σ τ υ ω : Scheduler} →
     Instant n run σ run′ τ → Instant m other υ other′ ω → run ≡ other → σ ≡ υ →
-    ends n run′ τ ≡ ends m other′ ω
-same-instant (rule37 a) (rule37 b) f e = let h = same-step a b f e in cc
-same-instant (rule37 a) (rule38 b d) f e = let h = same-step a b f e in cc
-same-instant (rule38 a c) (rule37 b) f e = let h = same-step a b f e in cc
-same-instant (rule38 a c) (rule38 b d) f e = let h = same-step a b f e in let g = same-instant c d (cc) (cc) in cc
+    gives n run′ τ ≡ gives m other′ ω
+same-instant (rule37 a) (rule37 b) f e = given (same-step a b f e) (λ h. cc)
+same-instant (rule37 a) (rule38 b d) f e = given (same-step a b f e) (λ h. cc)
+same-instant (rule38 a c) (rule37 b) f e = given (same-step a b f e) (λ h. cc)
+same-instant (rule38 a c) (rule38 b d) f e = given (same-step a b f e) (λ h. given (same-instant c d (cc) (cc)) (λ g. cc))
 
 pub instant-determined :
     {n m : ℕ} {run run′ run″ : ℕ → Instruction} {σ τ υ : Scheduler} →
