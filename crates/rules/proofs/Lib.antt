@@ -1,3 +1,4 @@
+pub mod Given
 pub mod Walks
 pub mod Stages
 pub mod Lines

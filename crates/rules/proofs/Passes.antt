@@ -46,6 +46,7 @@ use Rattle.rules.specs.Instants.{runs, isFinished, rule33, rule34, InTur
 use Rattle.rules.specs.Residual.{residual, _⇝_}
 use Rattle.rules.specs.View.{view}
 use Rattle.rules.specs.Claims.{Stands, TurnRule, PassRule, InstantRule}
+use Rattle.rules.proofs.Given.{given}
 use Rattle.rules.proofs.Walks.{Marks, statusAfter}
 use Rattle.rules.proofs.Told.{marks-then, ends-of}
 use Rattle.rules.proofs.Stages.{stage-continues, stage-pauses, stage-seen}
@@ -198,8 +199,8 @@ module _ (book : List ℕ) (a : Accepted book) where
       let few-last : instant book n rs u .played .state .tooMany ≡ false = rw undone at few in
       let few-first = instant-keeps book a n rs (listed-below s sound) u sound-again .1 .few few-last in
       let (to, rule, stand-first) = pass-by-rules run s ms stand sound few-first in
-      let (last, others, stand-last) =
-      rw same at (instant-by-rules n to u (ms ++ marksIn (first .told)) stand-first sound-again (rw same ends) (rw same few-last)) in
       let flags = again-seen (first .state) (ms ++ marksIn (first .told)) in
+      given (rw same at (instant-by-rules n to u (ms ++ marksIn (first .told)) stand-first sound-again (rw same ends) (rw same few-last)))
+      (λ (last, others, stand-last).
       rw (undone, add-one (instant book n rs u .passes), ← marks-then)
-      (last, rule38 {run″ = last} (rw undone at rule) (rw flags at others), stand-last)
+      (last, rule38 {run″ = last} (rw undone at rule) (rw flags at others), stand-last))
