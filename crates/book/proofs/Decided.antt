@@ -20,7 +20,7 @@ use Rattle.layout.specs.Verdicts.{accepted, refused, _orElse_, unless, firstRef
 use Rattle.layout.specs.Layout.{headerBytes, countsFit, layoutFits, layoutVerdict, countsOf}
 use Rattle.layout.specs.Layout.{routinesOf, stepsOf, firstStep, stepCount, stepsBefore, entryVerdict, directoryVerdict}
 use Rattle.kinds.specs.Steps.{stepAt}
-use Rattle.blocks.specs.Blocks.{beyond, unreadable, viewAt}
+use Rattle.blocks.specs.Blocks.{beyond, unreadable, seen}
 use Rattle.book.specs.Book.{stepsPart, routinePart, viewOf, routineWalk, stepVerdict, nestingOf, nestingAt, pausingAt}
 use Rattle.blocks.specs.Parse.{WhilesPause, blockPauses, Misplaced}
 use Rattle.book.specs.Accepted.{CountsInRange, OffsetsRight, LaidOut, DirectoryRight, ReadableStep}
@@ -30,7 +30,7 @@ use Rattle.book.proofs.Laid.{passed, counts-in-range, counts-fit, offse
 use Rattle.layout.proofs.Directory.{Entries, routine-within}
 use Rattle.kinds.proofs.Readable.{readable-step, step-readable}
 use Rattle.book.proofs.Parts.{step-of-book, step-routine}
-use Rattle.blocks.proofs.Views.{view-beyond, view-inside}
+use Rattle.blocks.proofs.Views.{view-beyond, view-seen, view-inside}
 use Rattle.blocks.proofs.Parses.{routine-sound, routine-complete, lowest}
 use Rattle.blocks.proofs.Faults.{misnested, unreadable-at}
 use Rattle.blocks.proofs.Order.{misplaced-fault}
@@ -99,6 +99,9 @@ kind-of step.Refused i e = absurd (omega (arith, e))
 no-kind : (x : Step) (i : ℕ) → ((k : Kind) → x ≡ step.Kind k → ⊥) → stepVerdict x i ≡ refused 5 i
 no-kind (step.Kind k) i h = absurd (h k refl)
 no-kind step.Refused i h = refl
+
+kind-seen : {x : Step} {k : Kind} → x ≡ step.Kind k → seen x ≡ unreadable → ⊥
+kind-seen e u = let z : _≡_ {A = ℕ} 0 1 = cc in omega arith
 
 -- check 5
 module _ (s : List ℕ) where
@@ -201,11 +204,9 @@ module _ (s : List ℕ) where
   pub readable-places :
       LaidOut s → DirectoryRight s → AllReadable s → (r : ℕ) → r < routinesOf s →
       (p : ℕ) → p < stepCount s r → viewOf s r p ≡ unreadable → ⊥
-  unfolding viewAt
   readable-places laid directed all r h p l e =
       let i = firstStep s r + p in
       let inBook : i < stepsOf s = omega (arith, routine-within s (directed .entries) (directed .total) r h) in
       let there = step-of-book s (laid .offsets .size) i inBook in
       let kind = step-routine s r (countsOf s) p ∙ readable-step (countsOf s) (stepsPart s) i there (all i inBook) in
-      let z : _≡_ {A = ℕ} 0 1 = cc (lt-ltb p (stepCount s r) l, kind) in
-      omega arith
+      kind-seen kind (rw view-seen at e)
