@@ -517,7 +517,9 @@ use Rattle.book.specs.Book.{routinePart, bookVerdict}
 use Rattle.game.specs.Below.{allBelow, anyBelow}
 use Rattle.game.specs.Lines.{isIn, appended}
 use Rattle.game.specs.Game.{blankGame, withStart}
-use Rattle.fitting.specs.Fitting.{routineFits, slotFits, entryFits, lineFits, countersFit, signalsFit, fitsBook}
+use Rattle.fit_arrays.specs.Arrays.{entryFits, lineFits, countersFit, signalsFit}
+use Rattle.fit_routines.specs.Routines.{routineFits, slotFits}
+use Rattle.fitting.specs.Fitting.{fitsBook}
 use Rattle.orders.specs.SetUp.{newGame}
 use Rattle.orders.specs.Orders.{obeyed}
 use Rattle.round.specs.State.{numbersWith, isEndThere, isThere}

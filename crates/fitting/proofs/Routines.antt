@@ -14,7 +14,7 @@ use Rattle.layout.specs.Layout.{stepCount, countsOf}
 use Rattle.book.specs.Book.{routineSteps}
 use Rattle.game.specs.declared.Routine.{Routine}
 use Rattle.game.specs.Game.{notStarted, continuing, rested, ended, stopped, blank}
-use Rattle.fitting.specs.Fitting.{isBlank, stageFits, routineFits}
+use Rattle.fit_routines.specs.Routines.{isBlank, stageFits, routineFits}
 use Rattle.fitting.proofs.Tests.{less, at-most, equal, fails, refuted, denied, both, choice}
 
 -- stages 1 and 2, and stages 0 and 4

@@ -15,7 +15,9 @@ use Rattle.game.specs.declared.Game.{Game}
 use Rattle.game.specs.Below.{allBelow, anyBelow}
 use Rattle.game.specs.Lines.{isIn, appended}
 use Rattle.game.specs.Game.{routineAt, blankGame, withStart}
-use Rattle.fitting.specs.Fitting.{routineFits, slotFits, entryFits, lineFits, countersFit, signalsFit, fitsBook}
+use Rattle.fit_arrays.specs.Arrays.{entryFits, lineFits, countersFit, signalsFit}
+use Rattle.fit_routines.specs.Routines.{routineFits, slotFits}
+use Rattle.fitting.specs.Fitting.{fitsBook}
 use Rattle.orders.specs.SetUp.{newGame}
 use Rattle.round.specs.declared.Ending.the-variants.{Ended, Continued}
 use Rattle.round.specs.State.{signal, Happening, gave, ended, missing, past, marked, completed, numbersWith, isEndThere, isThere}

@@ -7,7 +7,8 @@ use borrow.Author.Needs.{needs}
 use borrow.Author.Tests.{not-true, not-false}
 use Rattle.layout.specs.Layout.{countsOf}
 use Rattle.game.specs.declared.Game.{Game}
-use Rattle.fitting.specs.Fitting.{sameCounts, lineFits, countersFit, signalsFit, fitsBook}
+use Rattle.fit_arrays.specs.Arrays.{lineFits, countersFit, signalsFit}
+use Rattle.fitting.specs.Fitting.{sameCounts, fitsBook}
 use Rattle.fitting.proofs.fits.Statement.{statement}
 use Rattle.fitting.proofs.fits.Tie as tie
 
