@@ -58,10 +58,11 @@ use Rattle.kinds.specs.declared.Counts.{Counts}
 use Rattle.kinds.specs.Steps.{stepBytes, opAt, fieldA, fieldB, fieldN, decoded, stepAt}
 use Rattle.blocks.specs.declared.Walk.{Walk}
 use Rattle.blocks.specs.Blocks.{View, seen, beyond, viewAt, routineOf}
-use Rattle.layout.specs.declared.Verdict.{Verdict}
-use Rattle.layout.specs.Verdicts.{_orElse_, firstRefusal}
-use Rattle.layout.specs.Layout.{routinesOf, stepsOf, firstStep, stepCount, layoutVerdict, directoryVerdict, countsOf}
-use Rattle.book.specs.Book.{stepVerdict, stepsPart, stepsVerdict, routinePart, routineSteps, routineWalk}
+use Rattle.verdicts.specs.declared.Verdict.{Verdict}
+use Rattle.verdicts.specs.Verdicts.{_orElse_, firstRefusal, refused}
+use Rattle.layout.specs.Layout.{routinesOf, stepsOf, layoutVerdict, countsOf}
+use Rattle.directory.specs.Directory.{firstStep, stepCount, directoryVerdict, routinePart, routineSteps, stepsBefore}
+use Rattle.book.specs.Book.{stepVerdict, stepsPart, stepsVerdict, routineWalk}
 use Rattle.book.specs.Book.{nestingOf, pausingOf, nestingVerdict, pausingVerdict, bookVerdict}
 use Rattle.game.specs.declared.Game.{Game}
 use Rattle.game.specs.Game.{continuing, routineAt}
@@ -246,10 +247,8 @@ use lib.Dec.{eqb, ltb}
 use lib.ListN.{set, take, drop, replicate}
 use lib.IntN.{ℤ, pos}
 use Rattle.numbers.specs.Choice.{if_then_else_}
-use Rattle.layout.specs.declared.Verdict.{Verdict}
-use Rattle.layout.specs.Verdicts.{_orElse_}
 use Rattle.layout.specs.Layout.{mostRoutines, mostSignals, routinesOf, countsOf}
-use Rattle.book.specs.Book.{bookVerdict, routineSteps, shown}
+use Rattle.book.specs.Book.{bookVerdict, shown}
 use Rattle.game.specs.declared.Routine.{Routine}
 use Rattle.game.specs.declared.Line.{Line}
 use Rattle.game.specs.declared.Game.{Game}
@@ -511,9 +510,8 @@ use lib.ListN.{replicate}
 use lib.IntN.{ℤ, pos, negsuc}
 use Rattle.kinds.specs.Steps.{rowOf, decoded, stepAt}
 use Rattle.blocks.specs.Blocks.{blockBy, stepOf, routineOf, partnerOf}
-use Rattle.layout.specs.Verdicts.{refused, firstRefusal}
-use Rattle.layout.specs.Layout.{layoutVerdict, stepsBefore, directoryVerdict}
-use Rattle.book.specs.Book.{routinePart, bookVerdict}
+use Rattle.layout.specs.Layout.{layoutVerdict}
+use Rattle.book.specs.Book.{bookVerdict}
 use Rattle.game.specs.Below.{allBelow, anyBelow}
 use Rattle.game.specs.Lines.{isIn, appended}
 use Rattle.game.specs.Game.{blankGame, withStart}

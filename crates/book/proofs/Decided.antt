@@ -9,25 +9,26 @@ use lib.Dec.{eqb}
 use lib.ListN.{length}
 use borrow.Author.Tests.{eqb-true, le-leb, lt-leb, lt-ltb, le-ltb, eq-eqb, ne-eqb}
 use Rattle.numbers.proofs.Tests.{not-true-false}
-use Rattle.layout.specs.declared.Verdict.{Verdict}
+use Rattle.verdicts.specs.declared.Verdict.{Verdict}
 use Rattle.kinds.specs.declared.Kind.{Kind}
 use Rattle.kinds.specs.declared.Step.{Step}
 use Rattle.kinds.specs.declared.Step.the-variants as step
 use Rattle.blocks.specs.declared.Fault.the-variants.{Unreadable, Misnested}
 use Rattle.blocks.specs.declared.Walk.{Walk}
 use Rattle.blocks.specs.declared.Walk.the-variants as walk
-use Rattle.layout.specs.Verdicts.{accepted, refused, _orElse_, unless, firstRefusal}
+use Rattle.verdicts.specs.Verdicts.{accepted, refused, _orElse_, unless, firstRefusal}
 use Rattle.layout.specs.Layout.{headerBytes, countsFit, layoutFits, layoutVerdict, countsOf}
-use Rattle.layout.specs.Layout.{routinesOf, stepsOf, firstStep, stepCount, stepsBefore, entryVerdict, directoryVerdict}
+use Rattle.layout.specs.Layout.{routinesOf, stepsOf}
+use Rattle.directory.specs.Directory.{firstStep, stepCount, stepsBefore, entryVerdict, directoryVerdict, routinePart}
 use Rattle.kinds.specs.Steps.{stepAt}
 use Rattle.blocks.specs.Blocks.{beyond, unreadable, seen}
-use Rattle.book.specs.Book.{stepsPart, routinePart, viewOf, routineWalk, stepVerdict, nestingOf, nestingAt, pausingAt}
+use Rattle.book.specs.Book.{stepsPart, viewOf, routineWalk, stepVerdict, nestingOf, nestingAt, pausingAt}
 use Rattle.blocks.specs.Parse.{WhilesPause, blockPauses, Misplaced}
 use Rattle.book.specs.Accepted.{CountsInRange, OffsetsRight, LaidOut, DirectoryRight, ReadableStep}
 use Rattle.book.specs.Tells.{AllReadable, Nests}
-use Rattle.layout.proofs.First.{orElse-both, orElse-past, orElse-told, Decides, all-good, all-clear, first-told}
+use Rattle.verdicts.proofs.First.{orElse-both, orElse-past, orElse-told, Decides, all-good, all-clear, first-told}
 use Rattle.book.proofs.Laid.{passed, counts-in-range, counts-fit, offsets-in-place}
-use Rattle.layout.proofs.Directory.{Entries, routine-within}
+use Rattle.directory.proofs.Directory.{Entries, routine-within}
 use Rattle.kinds.proofs.Readable.{readable-step, step-readable}
 use Rattle.book.proofs.Parts.{step-of-book, step-routine}
 use Rattle.blocks.proofs.Views.{view-beyond, view-seen, view-inside}

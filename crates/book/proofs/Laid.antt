@@ -9,10 +9,10 @@ use lib.Dec.{leb}
 use native.Mathlib.Omega.{arith}
 use borrow.Author.Tests.{leb-true, eqb-true, le-leb, eq-eqb}
 use Rattle.numbers.proofs.Tests.{and-both}
-use Rattle.layout.specs.Verdicts.{accepted, refused, unless}
+use Rattle.verdicts.specs.Verdicts.{accepted, refused, unless}
 use Rattle.layout.specs.Layout.{headerBytes, countsFit, layoutFits, layoutVerdict}
 use Rattle.book.specs.Accepted.{CountsInRange, OffsetsRight, LaidOut}
-use Rattle.layout.proofs.First.{orElse-both}
+use Rattle.verdicts.proofs.First.{orElse-both}
 
 -- a test that tells nothing has passed
 pub passed : (t : Bool) (k p : ℕ) → (k ≡ 0 → ⊥) → unless t (refused k p) .number ≡ 0 → t ≡ true

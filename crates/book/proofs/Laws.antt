@@ -14,14 +14,15 @@ use lib.ListN.{length}
 use Rattle.kinds.specs.declared.Kind.{Kind}
 use Rattle.kinds.specs.declared.Step.the-variants as step
 use Rattle.kinds.specs.declared.Form.the-variants.{ElseMarker, EndMarker}
-use Rattle.layout.specs.Layout.{routinesOf, stepsOf, firstStep, stepCount, countsOf, routineFrom}
+use Rattle.layout.specs.Layout.{routinesOf, stepsOf, countsOf}
+use Rattle.directory.specs.Directory.{firstStep, stepCount, routineFrom, routinePart, routineSteps}
 use Rattle.kinds.specs.Steps.{stepBytes, stepAt}
 use Rattle.blocks.specs.Blocks.{View, stands, viewAt, deepest, partnerOf}
-use Rattle.book.specs.Book.{stepsPart, routinePart, routineSteps, viewOf, shown, shownFrom}
+use Rattle.book.specs.Book.{stepsPart, viewOf, shown, shownFrom}
 use Rattle.blocks.specs.Parse.{ParsedBlock, WhilesPause}
 use Rattle.book.specs.Accepted.{Accepted}
 use Rattle.book.specs.Tells.{nothing}
-use Rattle.layout.proofs.Directory as directory
+use Rattle.directory.proofs.Directory as directory
 use Rattle.kinds.proofs.Readable.{rowAt, readable-step}
 use Rattle.book.proofs.Parts.{step-of-book, step-taken, step-routine, shown-length}
 use Rattle.blocks.proofs.Scan.{finds-partner}

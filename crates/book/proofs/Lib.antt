@@ -1,4 +1,3 @@
-pub mod Answers
 pub mod Decided
 pub mod Laid
 pub mod Laws

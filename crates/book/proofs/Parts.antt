@@ -6,19 +6,14 @@ use mathlib.Core.List.{List}
 use native.Mathlib.Nat.{add-zero}
 use native.Mathlib.Omega.{arith}
 use native.Mathlib.Decide.{decLt}
-use borrow.Author.Tests.{le-leb}
 use lib.ListN.{length, getD, take, drop, length-take, length-drop}
 use lib.Seq.{getD-take, getD-drop, drop-drop, length-take-le}
 use Rattle.kinds.specs.declared.Counts.{Counts}
-use Rattle.layout.specs.Layout.{stepsOf, stepsFrom, firstStep, stepCount, routineFrom}
+use Rattle.layout.specs.Layout.{stepsOf, stepsFrom}
+use Rattle.directory.specs.Directory.{firstStep, stepCount, routineFrom, routinePart, routineSteps}
 use Rattle.kinds.specs.Steps.{stepBytes, decoded, opAt, fieldA, fieldB, fieldN, stepAt}
-use Rattle.book.specs.Book.{stepsPart, routinePart, routineSteps, routineStepsFrom}
+use Rattle.book.specs.Book.{stepsPart}
 use Rattle.kinds.proofs.Readable.{step-there, step-missing}
-
--- a routine that begins in the book has its steps there
-pub begins-there : (s : List ℕ) (r : ℕ) → routineFrom s r ≤ length s → routineStepsFrom s r ≡ routineFrom s r
-unfolding routineStepsFrom
-begins-there s r h = rw (le-leb _ _ h)
 
 -- step i of s has the bytes of step j of t, and is there if that one is
 pub record SameStep (s : List ℕ) (i : ℕ) (t : List ℕ) (j : ℕ) : Type 0 where

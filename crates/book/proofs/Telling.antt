@@ -10,14 +10,15 @@ use lib.Dec.{leb, eqb}
 use lib.ListN.{length}
 use borrow.Author.Tests.{leb-true, leb-false, eqb-false}
 use Rattle.numbers.proofs.Tests.{clash}
-use Rattle.layout.specs.declared.Verdict.{Verdict}
-use Rattle.layout.specs.Verdicts.{accepted, refused, _orElse_, unless}
-use Rattle.layout.specs.Layout.{headerBytes, countsFit, layoutFits, layoutVerdict, routinesOf, stepsOf, stepsBefore, directoryVerdict}
+use Rattle.verdicts.specs.declared.Verdict.{Verdict}
+use Rattle.verdicts.specs.Verdicts.{accepted, refused, _orElse_, unless}
+use Rattle.layout.specs.Layout.{headerBytes, countsFit, layoutFits, layoutVerdict, routinesOf, stepsOf}
+use Rattle.directory.specs.Directory.{stepsBefore, directoryVerdict}
 use Rattle.book.specs.Book.{stepsVerdict, nestingVerdict, pausingVerdict, bookVerdict}
 use Rattle.book.specs.Accepted.{LaidOut, DirectoryRight, Accepted}
 use Rattle.book.specs.Tells.{AllReadable, Nests, Tells}
-use Rattle.layout.proofs.First.{orElse-clear, orElse-refused, orElse-both, orElse-past, orElse-told}
-use Rattle.layout.proofs.First.{all-good, all-clear, not-good, first-claim, first-told}
+use Rattle.verdicts.proofs.First.{orElse-clear, orElse-refused, orElse-both, orElse-past, orElse-told}
+use Rattle.verdicts.proofs.First.{all-good, all-clear, not-good, first-claim, first-told}
 use Rattle.book.proofs.Laid.{counts-in-range, counts-fit, layout-fits, laid-out, laid-back}
 use Rattle.book.proofs.Decided.{short-told, counts-told, offsets-told}
 use Rattle.book.proofs.Decided.{entries-decided, entry-wrong, directed, directory-clear, total-told, entry-told}

@@ -5,7 +5,8 @@ use mathlib.Core.List.{List}
 use lib.ListN.{length}
 use Rattle.numbers.specs.Numbers.{halfAt}
 use Rattle.layout.specs.Layout.{headerBytes, mostRoutines, mostSteps, mostSignals, mostCounters, routinesOf, stepsOf, signalsOf, countsOf}
-use Rattle.layout.specs.Layout.{countersOf, stepsFrom, firstStep, stepCount, stepsBefore}
+use Rattle.layout.specs.Layout.{countersOf, stepsFrom}
+use Rattle.directory.specs.Directory.{firstStep, stepCount, stepsBefore}
 use Rattle.kinds.specs.Steps.{stepBytes, Readable, opAt, fieldA, fieldB, fieldN}
 use Rattle.blocks.specs.Blocks.{deepest}
 use Rattle.book.specs.Book.{stepsPart, viewOf}

@@ -1,20 +1,21 @@
 -- Reading a book and showing a routine: document 01, "Turned down because of the input".
-use Prim.Native.Nat.{ℕ, _+_, _*_}
+use Prim.Native.Nat.{ℕ, _+_}
 use mathlib.Core.Bool.{Bool, _&&_}
 use mathlib.Core.List.{List, []}
-use lib.Dec.{eqb, leb, ltb}
-use lib.ListN.{length, drop, take}
+use lib.Dec.{eqb, ltb}
+use lib.ListN.{drop}
 use Rattle.numbers.specs.Choice.{if_then_else_}
-use Rattle.layout.specs.declared.Verdict.{Verdict}
+use Rattle.verdicts.specs.declared.Verdict.{Verdict}
 use Rattle.kinds.specs.declared.Step.{Step}
 use Rattle.kinds.specs.declared.Step.the-variants as step
 use Rattle.blocks.specs.declared.Fault.the-variants.{Unreadable, Misnested}
 use Rattle.blocks.specs.declared.Walk.{Walk}
 use Rattle.blocks.specs.declared.Walk.the-variants as walk
-use Rattle.layout.specs.Verdicts.{accepted, refused, _orElse_, firstRefusal}
-use Rattle.layout.specs.Layout.{routinesOf, stepsOf, stepsFrom, firstStep, stepCount, layoutVerdict}
-use Rattle.layout.specs.Layout.{directoryVerdict, countsOf, routineFrom}
-use Rattle.kinds.specs.Steps.{stepBytes, stepAt}
+use Rattle.verdicts.specs.Verdicts.{accepted, refused, _orElse_, firstRefusal}
+use Rattle.layout.specs.Layout.{routinesOf, stepsOf, stepsFrom, layoutVerdict}
+use Rattle.directory.specs.Directory.{firstStep, stepCount, directoryVerdict, routineFrom, routinePart, routineSteps}
+use Rattle.layout.specs.Layout.{countsOf}
+use Rattle.kinds.specs.Steps.{stepAt}
 use Rattle.blocks.specs.Blocks.{View, viewAt, routineOf}
 
 -- 5. "A step has an unknown op, a field out of range or a stray field: place is the first such step of the book."
@@ -27,18 +28,6 @@ stepsPart s = drop (stepsFrom s) s
 
 unfoldable pub stepsVerdict : List ℕ → Verdict
 stepsVerdict s = firstRefusal (λ i. stepVerdict (stepAt (countsOf s) (stepsPart s) i) i) (stepsOf s) 0
-
--- "the part of the book that begins at its first step"
-unfoldable pub routinePart : List ℕ → ℕ → List ℕ
-routinePart s r = drop (routineFrom s r) s
-
--- the steps of routine r
-abbrev pub routineSteps : List ℕ → ℕ → List ℕ
-routineSteps s r = take (stepBytes * stepCount s r) (routinePart s r)
-
--- the byte of the book where they begin; 0 for a routine that begins past the book's end, of which no step is there
-unfoldable pub routineStepsFrom : List ℕ → ℕ → ℕ
-routineStepsFrom s r = if leb (routineFrom s r) (length s) then routineFrom s r else 0
 
 -- what stands at a place of routine r
 abbrev pub viewOf : List ℕ → ℕ → ℕ → View

@@ -4,11 +4,12 @@ use mathlib.Core.Path.{_≡_, refl}
 use mathlib.Core.List.{List, [], _∷_, _++_, map}
 use lib.ListN.{length}
 use Rattle.kinds.specs.Steps.{rowOf, decoded, stepAt}
-use Rattle.layout.specs.declared.Verdict.{Verdict}
-use Rattle.layout.specs.Verdicts.{accepted, refused, firstRefusal}
-use Rattle.layout.specs.Layout.{layoutVerdict, stepsBefore, directoryVerdict}
+use Rattle.verdicts.specs.declared.Verdict.{Verdict}
+use Rattle.verdicts.specs.Verdicts.{accepted, refused, firstRefusal}
+use Rattle.layout.specs.Layout.{layoutVerdict}
+use Rattle.directory.specs.Directory.{stepsBefore, directoryVerdict, routinePart}
 use Rattle.blocks.specs.Blocks.{viewAt, blockBy, stepOf, routineOf}
-use Rattle.book.specs.Book.{stepsVerdict, routinePart, routineWalk, nestingVerdict, pausingVerdict, bookVerdict}
+use Rattle.book.specs.Book.{stepsVerdict, routineWalk, nestingVerdict, pausingVerdict, bookVerdict}
 
 abbrev pub half : ℕ → List ℕ
 half n = n % 256 ∷ n / 256 ∷ []

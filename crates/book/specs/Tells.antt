@@ -5,7 +5,8 @@ use mathlib.Core.Path.{_≡_}
 use mathlib.Core.Bool.{true, false}
 use mathlib.Core.List.{List}
 use lib.ListN.{length}
-use Rattle.layout.specs.Layout.{headerBytes, routinesOf, stepsOf, firstStep, stepCount, stepsBefore}
+use Rattle.layout.specs.Layout.{headerBytes, routinesOf, stepsOf}
+use Rattle.directory.specs.Directory.{firstStep, stepCount, stepsBefore}
 use Rattle.blocks.specs.Blocks.{deepest}
 use Rattle.book.specs.Book.{viewOf}
 use Rattle.blocks.specs.Parse.{ParsedBlock, EachWhile, SomeWhile, WhilesPause, Misplaced}

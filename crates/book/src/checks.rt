@@ -1,26 +1,27 @@
 // Refusals 5 to 7: every step of the book, then its blocks, routine by routine.
-use crate::WRONG_NESTING;
-use crate::WRONG_STEP;
 use crate::first_answer;
-use crate::verdict_of;
 use blocks::Fault;
 use blocks::Walk;
 use blocks::read_routine;
+use directory::first_step;
+use directory::step_count;
 use kinds::STEP_BYTES;
 use kinds::Step;
 use kinds::step_at;
-use layout::Answer;
 use layout::counts_of;
-use layout::first_step;
 use layout::routines;
-use layout::step_count;
 use layout::steps;
 use layout::steps_from;
+use verdicts::Answer;
+use verdicts::WRONG_NESTING;
+use verdicts::WRONG_STEP;
+use verdicts::verdict_of;
 ghost use mathlib.Core.Path.{_≡_};
 ghost use Prim.Native.Nat.{_+_, _<_};
 ghost use Rattle.numbers.specs.Numbers.{halfLimit};
-ghost use Rattle.layout.specs.Verdicts.{accepted, verdictOf, _orElse_};
-ghost use Rattle.layout.specs.Layout.{routinesOf, layoutVerdict, directoryVerdict};
+ghost use Rattle.verdicts.specs.Verdicts.{accepted, verdictOf, _orElse_};
+ghost use Rattle.layout.specs.Layout.{routinesOf, layoutVerdict};
+ghost use Rattle.directory.specs.Directory.{directoryVerdict};
 ghost use Rattle.book.specs.Book.{stepsVerdict, nestingVerdict, pausingVerdict, nestingAt, pausingAt};
 
 // Refusal 5, over the whole book.

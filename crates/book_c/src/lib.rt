@@ -4,8 +4,8 @@ ghost use Rattle.book.specs.Book.{bookVerdict};
 
 // The number and the place of the first refusal that applies; both 0 where the book is accepted.
 #[no_mangle]
-pub extern "C" fn zulqenat_check_book(book: &[u8]) -> layout::Verdict
+pub extern "C" fn zulqenat_check_book(book: &[u8]) -> verdicts::Verdict
     ensures { λ r. ⌜ r ≡ bookVerdict (now (book .entry)) ⌝ }
 {
-    book::verdict_of(book::read_book(book))
+    verdicts::verdict_of(book::read_book(book))
 }

@@ -20,7 +20,7 @@ fn print_pair(number: u32, place: u32) {
 }
 
 // Prints a book's verdict beside the one that is expected, and answers whether they are the same.
-fn compare(verdict: layout::Verdict, number: u32, place: u32) -> bool {
+fn compare(verdict: verdicts::Verdict, number: u32, place: u32) -> bool {
     print_pair(verdict.number, verdict.place);
     if verdict.number == number {
         if verdict.place == place {
@@ -40,8 +40,8 @@ fn unreadable() -> bool {
 }
 
 // What reading the first `count` bytes answers.
-fn verdict_on(book: &[u8; LONGEST], count: usize) -> layout::Verdict {
-    book::verdict_of(book::read_book(part(book, count)))
+fn verdict_on(book: &[u8; LONGEST], count: usize) -> verdicts::Verdict {
+    verdicts::verdict_of(book::read_book(part(book, count)))
 }
 
 // The book whose digits are `text`: whether it is answered as expected.

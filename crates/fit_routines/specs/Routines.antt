@@ -7,8 +7,8 @@ use lib.ListN.{getD}
 use Rattle.numbers.specs.Choice.{if_then_else_}
 use Rattle.kinds.specs.Steps.{stepAt}
 use Rattle.kinds.specs.Timed.{timedCount}
-use Rattle.layout.specs.Layout.{stepCount, countsOf}
-use Rattle.book.specs.Book.{routineSteps}
+use Rattle.layout.specs.Layout.{countsOf}
+use Rattle.directory.specs.Directory.{stepCount, routineSteps}
 use Rattle.game.specs.declared.Routine.{Routine}
 use Rattle.game.specs.declared.Game.{Game}
 use Rattle.game.specs.Lines.{isIn}

@@ -1,5 +1,6 @@
 // Whether the routines of a game fit a book: a part of refusal 9. Document 01, "The game".
-use book::routine_steps;
+use directory::routine_steps;
+use directory::step_count;
 use game::CONTINUING;
 use game::ENDED;
 use game::Game;
@@ -12,7 +13,6 @@ use kinds::step_at;
 use kinds::timed_count;
 use layout::MOST_ROUTINES;
 use layout::counts_of;
-use layout::step_count;
 ghost use mathlib.Core.Path.{_≡_};
 ghost use Prim.Native.Nat.{_<_};
 ghost use Rattle.layout.specs.Layout.{mostRoutines};

@@ -10,8 +10,8 @@ use Rattle.numbers.proofs.Tests.{clash}
 use Rattle.kinds.specs.Steps.{stepAt}
 use Rattle.kinds.specs.Timed.{timedCount}
 use Rattle.kinds.proofs.Timed.{LeftOf, timed}
-use Rattle.layout.specs.Layout.{stepCount, countsOf}
-use Rattle.book.specs.Book.{routineSteps}
+use Rattle.layout.specs.Layout.{countsOf}
+use Rattle.directory.specs.Directory.{stepCount, routineSteps}
 use Rattle.game.specs.declared.Routine.{Routine}
 use Rattle.game.specs.Game.{notStarted, continuing, rested, ended, stopped, blank}
 use Rattle.fit_routines.specs.Routines.{isBlank, stageFits, routineFits}

@@ -10,8 +10,8 @@ use Rattle.numbers.specs.Numbers.{lowestCounter, highestCounter}
 use Rattle.kinds.specs.declared.Step.{Step}
 use Rattle.kinds.specs.Steps.{stepAt}
 use Rattle.kinds.specs.Timed.{Timed}
-use Rattle.layout.specs.Layout.{mostRoutines, mostSignals, mostCounters, routinesOf, signalsOf, countersOf, stepCount, countsOf}
-use Rattle.book.specs.Book.{routineSteps}
+use Rattle.layout.specs.Layout.{mostRoutines, mostSignals, mostCounters, routinesOf, signalsOf, countersOf, countsOf}
+use Rattle.directory.specs.Directory.{stepCount, routineSteps}
 use Rattle.game.specs.declared.Line.{Line}
 use Rattle.game.specs.declared.Game.{Game}
 use Rattle.game.specs.Lines.{mostEntries, itemAt}

@@ -87,7 +87,7 @@ fn long_command(line: &[u8], book: &[u8], game: Game) -> Game {
 fn command(line: &[u8], buffer: &[u8; LONGEST], count: usize, game: Game) -> Game {
     let book = part(buffer, count);
     match place_in(b"read setup dump", line) {
-        0 => print_verdict(b"read", book::verdict_of(book::read_book(book))),
+        0 => print_verdict(b"read", verdicts::verdict_of(book::read_book(book))),
         1 => return set_up(book, game),
         2 => print_game(game),
         _ => return long_command(line, book, game),

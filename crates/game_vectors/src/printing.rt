@@ -7,10 +7,10 @@ use kinds::Counts;
 use layout::MOST_COUNTERS;
 use layout::MOST_ROUTINES;
 use layout::MOST_SIGNALS;
-use layout::Verdict;
 use orders::RESUME;
 use orders::STOP;
 use orders::SUSPEND;
+use verdicts::Verdict;
 
 pub fn print_wrong() {
     io::write_all(1, b"not a command\n");

@@ -1,13 +1,13 @@
--- The header and the directory of a book: document 01, "The book", and refusals 1 to 4.
-use Prim.Native.Nat.{ℕ, zero, suc, _+_, _*_}
+-- The header of a book and where its parts lie: document 01, "The book", and refusals 1 to 3.
+use Prim.Native.Nat.{ℕ, _+_, _*_}
 use mathlib.Core.Bool.{Bool, _&&_}
 use mathlib.Core.List.{List}
 use lib.Dec.{leb, eqb}
 use lib.ListN.{length}
 use Rattle.numbers.specs.Numbers.{halfAt}
 use Rattle.kinds.specs.Steps.{stepBytes}
-use Rattle.layout.specs.declared.Verdict.{Verdict}
-use Rattle.layout.specs.Verdicts.{refused, _orElse_, unless, firstRefusal}
+use Rattle.verdicts.specs.declared.Verdict.{Verdict}
+use Rattle.verdicts.specs.Verdicts.{refused, _orElse_, unless}
 use Rattle.kinds.specs.declared.Counts.{Counts}
 
 -- "Header of 12 bytes: routines R (1 to 64), steps S (0 to 1,024), signals E (0 to 64), counters C (0 to 64)"
@@ -65,31 +65,6 @@ unfoldable pub layoutVerdict : List ℕ → Verdict
 layoutVerdict s =
     unless (leb headerBytes (length s)) (refused 1 0) orElse unless (countsFit s) (refused 2 0) orElse unless (layoutFits s) (refused 3 0)
 
--- routine r's entry of the directory
-abbrev pub firstStep : List ℕ → ℕ → ℕ
-firstStep s r = halfAt s (headerBytes + entryBytes * r)
-
-abbrev pub stepCount : List ℕ → ℕ → ℕ
-stepCount s r = halfAt s (headerBytes + 2 + entryBytes * r)
-
--- the sum of the counts before routine r; it does not wrap
-unfoldable pub stepsBefore : List ℕ → ℕ → ℕ
-stepsBefore s zero = 0
-stepsBefore s (suc r) = stepsBefore s r + stepCount s r
-
--- 4. "place is the first routine whose first step isn't the sum of the counts before it, or R if only the total isn't S"
-abbrev pub entryVerdict : List ℕ → ℕ → Verdict
-entryVerdict s r = unless (eqb (firstStep s r) (stepsBefore s r)) (refused 4 r)
-
-unfoldable pub directoryVerdict : List ℕ → Verdict
-directoryVerdict s =
-    firstRefusal (entryVerdict s) (routinesOf s) 0
-    orElse unless (eqb (stepsBefore s (routinesOf s)) (stepsOf s)) (refused 4 (routinesOf s))
-
 -- the numbers R, E and C, which the fields of a step are held against
 abbrev pub countsOf : List ℕ → Counts
 countsOf s = record { routines = routinesOf s; signals = signalsOf s; counters = countersOf s }
-
--- the byte of the book where the steps of routine r begin
-abbrev pub routineFrom : List ℕ → ℕ → ℕ
-routineFrom s r = stepsFrom s + stepBytes * firstStep s r

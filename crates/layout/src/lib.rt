@@ -1,32 +1,14 @@
-// The header and the directory of a book, refusals 1 to 4, and what reading a book answers. Document 01, "The book".
+// The header of a book and where its parts lie: refusals 1 to 3. Document 01, "The book".
 use kinds::Counts;
 use kinds::STEP_BYTES;
 use numbers::half_at;
+use verdicts::Answer;
 ghost use mathlib.Core.Path.{_≡_};
 ghost use Prim.Native.Nat.{_+_, _*_, _<_};
 ghost use Rattle.numbers.specs.Numbers.{halfLimit};
-ghost use Rattle.layout.specs.Verdicts.{verdictOf};
+ghost use Rattle.verdicts.specs.Verdicts.{verdictOf};
 ghost use Rattle.layout.specs.Layout.{headerBytes, entryBytes, routinesOf, stepsOf, signalsOf, countersOf, countsFit, countsOf};
-ghost use Rattle.layout.specs.Layout.{layoutFits, stepsFrom, firstStep, stepCount, layoutVerdict, directoryVerdict};
-
-// What reading a book answers: accepted, or the first refusal that applies, with its place where it has one.
-pub enum Answer {
-    Accepted,
-    TooShort,
-    WrongCount,
-    WrongLayout,
-    WrongEntry(u32),
-    WrongStep(u32),
-    WrongNesting(u32),
-    WithoutPause(u32),
-}
-
-// A refusal's number and place; both 0 where nothing is turned down.
-#[repr(C)]
-pub struct Verdict {
-    pub number: u32,
-    pub place: u32,
-}
+ghost use Rattle.layout.specs.Layout.{layoutFits, stepsFrom, layoutVerdict};
 
 pub const MOST_ROUTINES: usize = 64;
 
@@ -37,9 +19,9 @@ pub const MOST_SIGNALS: usize = 64;
 pub const MOST_COUNTERS: usize = 64;
 
 // The bytes of the header and of an entry of the directory.
-const HEADER_BYTES: usize = 12;
+pub const HEADER_BYTES: usize = 12;
 
-const ENTRY_BYTES: usize = 4;
+pub const ENTRY_BYTES: usize = 4;
 
 pub fn routines(book: &[u8]) -> usize
     ensures { λ r. ⌜ (r ≡ routinesOf (now (book .entry))) × (r < halfLimit) ⌝ }
@@ -137,44 +119,4 @@ pub fn check_layout(book: &[u8]) -> Answer
     } else {
         Answer::WrongCount
     }
-}
-
-// The first step of a routine, by the directory; 0 where the bytes are not there.
-pub fn first_step(book: &[u8], routine: usize) -> usize
-    ensures { λ r. ⌜ (r ≡ firstStep (now (book .entry)) routine) × (r < halfLimit) ⌝ }
-{
-    if book.len() / ENTRY_BYTES <= routine {
-        return 0;
-    }
-    half_at(book, HEADER_BYTES + ENTRY_BYTES * routine)
-}
-
-// How many steps a routine has, by the directory; 0 where the bytes are not there.
-pub fn step_count(book: &[u8], routine: usize) -> usize
-    ensures { λ r. ⌜ (r ≡ stepCount (now (book .entry)) routine) × (r < halfLimit) ⌝ }
-{
-    if book.len() / ENTRY_BYTES <= routine {
-        return 0;
-    }
-    half_at(book, HEADER_BYTES + 2 + ENTRY_BYTES * routine)
-}
-
-// Refusal 4.
-pub fn check_directory(book: &[u8]) -> Answer
-    ensures { λ r. ⌜ verdictOf r ≡ directoryVerdict (now (book .entry)) ⌝ }
-{
-    let all = routines(book);
-    let mut routine: usize = 0;
-    let mut sum: usize = 0;
-    while routine < all {
-        if first_step(book, routine) != sum {
-            return Answer::WrongEntry(routine as u32);
-        }
-        sum += step_count(book, routine);
-        routine += 1;
-    }
-    if sum != steps(book) {
-        return Answer::WrongEntry(routine as u32);
-    }
-    Answer::Accepted
 }

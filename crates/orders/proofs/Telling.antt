@@ -7,13 +7,13 @@ use native.Mathlib.Omega.{arith}
 use native.Mathlib.Decide.{decLt}
 use borrow.Author.Tests.{lt-ltb, le-ltb}
 use Rattle.numbers.proofs.Tests.{clash, not-true-false, by-flag}
-use Rattle.layout.specs.declared.Verdict.{Verdict}
-use Rattle.layout.specs.Verdicts.{refused, _orElse_}
+use Rattle.verdicts.specs.declared.Verdict.{Verdict}
+use Rattle.verdicts.specs.Verdicts.{refused, _orElse_}
 use Rattle.layout.specs.Layout.{countsOf}
 use Rattle.book.specs.Book.{bookVerdict}
 use Rattle.book.specs.Accepted.{Accepted}
 use Rattle.book.specs.Tells.{Tells}
-use Rattle.layout.proofs.First.{orElse-told}
+use Rattle.verdicts.proofs.First.{orElse-told}
 use Rattle.book.proofs.Telling.{tells, told-only, number-accepted}
 use Rattle.game.specs.declared.Game.{Game}
 use Rattle.fitting.specs.Fitting.{fitsBook}

@@ -6,10 +6,11 @@ use mathlib.Core.List.{List, [], _∷_, map}
 use lib.ListN.{take}
 use Rattle.kinds.specs.Steps.{rowOf, decoded, stepAt}
 use Rattle.blocks.specs.Blocks.{viewAt, blockBy, stepOf, routineOf}
-use Rattle.layout.specs.declared.Verdict.{Verdict}
-use Rattle.layout.specs.Verdicts.{accepted, refused, firstRefusal}
-use Rattle.layout.specs.Layout.{layoutVerdict, stepsBefore, directoryVerdict, countsOf}
-use Rattle.book.specs.Book.{stepsVerdict, routinePart, routineWalk, nestingVerdict, pausingVerdict, bookVerdict}
+use Rattle.verdicts.specs.declared.Verdict.{Verdict}
+use Rattle.verdicts.specs.Verdicts.{accepted, refused, firstRefusal}
+use Rattle.layout.specs.Layout.{layoutVerdict, countsOf}
+use Rattle.directory.specs.Directory.{stepsBefore, directoryVerdict, routinePart}
+use Rattle.book.specs.Book.{stepsVerdict, routineWalk, nestingVerdict, pausingVerdict, bookVerdict}
 use Rattle.book.specs.Examples.{t3}
 use Rattle.game.specs.declared.Routine.{Routine}
 use Rattle.game.specs.declared.Game.{Game}

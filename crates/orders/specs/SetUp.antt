@@ -5,8 +5,8 @@ use mathlib.Core.List.{List}
 use lib.Dec.{eqb}
 use Rattle.numbers.specs.Choice.{if_then_else_}
 use Rattle.kinds.specs.declared.Counts.{Counts}
-use Rattle.layout.specs.declared.Verdict.{Verdict}
-use Rattle.layout.specs.Verdicts.{accepted}
+use Rattle.verdicts.specs.declared.Verdict.{Verdict}
+use Rattle.verdicts.specs.Verdicts.{accepted}
 use Rattle.layout.specs.Layout.{countsOf}
 use Rattle.book.specs.Book.{bookVerdict}
 use Rattle.game.specs.declared.Game.{Game}

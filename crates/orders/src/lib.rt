@@ -1,6 +1,5 @@
 // Setting up a game, and outside orders. Document 01, "The game".
 use book::read_book;
-use book::verdict_of;
 use fitting::fits;
 use game::Game;
 use game::Line;
@@ -15,11 +14,12 @@ use kinds::Counts;
 use layout::MOST_COUNTERS;
 use layout::MOST_ROUTINES;
 use layout::MOST_SIGNALS;
-use layout::Verdict;
 use layout::counts_of;
+use verdicts::Verdict;
+use verdicts::verdict_of;
 ghost use mathlib.Core.Path.{_≡_};
 ghost use Prim.Native.Nat.{_<_};
-ghost use Rattle.layout.specs.Verdicts.{refused};
+ghost use Rattle.verdicts.specs.Verdicts.{refused};
 ghost use Rattle.orders.specs.SetUp.{newGame, setUp, GivesFitting};
 ghost use Rattle.orders.specs.Orders.{orderCount, mostCounts, orderVerdict, obeyed, ordered};
 

@@ -13,7 +13,7 @@ use lib.ListN.{length}
 use Rattle.numbers.specs.Choice.{if_then_else_}
 use Rattle.numbers.proofs.Tests.{clash, neither}
 use Rattle.layout.specs.Layout.{countsOf}
-use Rattle.book.specs.Book.{routineSteps}
+use Rattle.directory.specs.Directory.{routineSteps}
 use Rattle.game.specs.declared.Game.{Game}
 use Rattle.round.specs.declared.Position.{Position}
 use Rattle.round.specs.declared.Effect.{Effect}

@@ -8,7 +8,7 @@ use Rattle.kinds.specs.declared.Step.{Step}
 use Rattle.kinds.specs.Timed as timed
 use Rattle.kinds.specs.Timed.{Timed}
 use Rattle.layout.specs.Layout.{countsOf}
-use Rattle.book.specs.Book.{routineSteps}
+use Rattle.directory.specs.Directory.{routineSteps}
 use Rattle.game.specs.declared.Game.{Game}
 use Rattle.round.specs.declared.Ending.{Ending}
 use Rattle.round.specs.declared.Position.{Position}

@@ -7,8 +7,9 @@ use mathlib.Core.List.{List, [], _∷_}
 use native.Mathlib.Nat.{add-zero}
 use native.Mathlib.Omega.{arith}
 use Rattle.kinds.specs.Steps.{opAt}
-use Rattle.layout.specs.Layout.{mostSteps, routinesOf, stepsOf, firstStep, stepCount, stepsBefore}
-use Rattle.book.specs.Book.{stepsPart, routinePart, routineSteps}
+use Rattle.layout.specs.Layout.{mostSteps, routinesOf, stepsOf}
+use Rattle.directory.specs.Directory.{firstStep, stepCount, stepsBefore, routinePart, routineSteps}
+use Rattle.book.specs.Book.{stepsPart}
 use Rattle.book.specs.Accepted.{Accepted}
 use Rattle.book.proofs.Parts.{same-taken, same-routine}
 use Rattle.round.specs.History.{countBelow, stepsIn}

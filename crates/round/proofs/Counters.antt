@@ -15,7 +15,7 @@ use Rattle.kinds.specs.declared.Row.{Row}
 use Rattle.kinds.specs.Steps.{table, opAt, fieldA, fieldB, fieldN, stepAt}
 use Rattle.blocks.proofs.Scan.{Rows, _and_, step-holds, row-kind}
 use Rattle.layout.specs.Layout.{countsOf}
-use Rattle.book.specs.Book.{routineSteps}
+use Rattle.directory.specs.Directory.{routineSteps}
 use Rattle.book.specs.Accepted.{Accepted}
 use Rattle.game.specs.declared.Game.{Game}
 use Rattle.game.specs.Game.{Sized}

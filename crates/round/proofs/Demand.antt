@@ -11,7 +11,7 @@ use native.Mathlib.Omega.{arith}
 use borrow.Author.Tests.{le-ltb, eq-eqb}
 use lib.ListN.{length}
 use lib.IntN.{ℤ}
-use Rattle.layout.specs.Verdicts.{accepted}
+use Rattle.verdicts.specs.Verdicts.{accepted}
 use Rattle.layout.specs.Layout.{routinesOf}
 use Rattle.book.specs.Accepted.{Accepted}
 use Rattle.game.specs.declared.Game.{Game}

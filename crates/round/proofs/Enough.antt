@@ -10,8 +10,8 @@ use native.Mathlib.Omega.{arith}
 use lib.ListN.{length}
 use Rattle.numbers.proofs.Tests.{by-test}
 use Rattle.kinds.specs.declared.Counts.{Counts}
-use Rattle.layout.specs.Layout.{mostRoutines, routinesOf, stepCount, countsOf}
-use Rattle.book.specs.Book.{routineSteps}
+use Rattle.layout.specs.Layout.{mostRoutines, routinesOf, countsOf}
+use Rattle.directory.specs.Directory.{stepCount, routineSteps}
 use Rattle.book.specs.Accepted.{Accepted}
 use Rattle.game.specs.declared.Game.{Game}
 use Rattle.game.specs.Game.{Sized}

@@ -11,7 +11,7 @@ use native.Mathlib.Omega.{arith}
 use Rattle.numbers.proofs.Tests.{by-flag}
 use Rattle.kinds.specs.Steps.{stepAt}
 use Rattle.layout.specs.Layout.{routinesOf, countsOf}
-use Rattle.book.specs.Book.{routineSteps}
+use Rattle.directory.specs.Directory.{routineSteps}
 use Rattle.book.specs.Accepted.{Accepted}
 use Rattle.game.specs.declared.Game.{Game}
 use Rattle.game.specs.Game.{continuing, routineAt, Sized}

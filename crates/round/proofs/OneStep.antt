@@ -9,7 +9,7 @@ use native.Mathlib.Decide.{ℕ-discrete}
 use native.Mathlib.Omega.{arith}
 use borrow.Author.Tests.{eq-eqb, ne-eqb}
 use lib.Dec.{eqb}
-use Rattle.layout.specs.Layout.{stepCount}
+use Rattle.directory.specs.Directory.{stepCount}
 use Rattle.round.specs.History.{countBelow, stepsIn}
 use Rattle.round.specs.Completed.{theStep}
 use Rattle.round.proofs.Along.{Distinct}

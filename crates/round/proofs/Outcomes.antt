@@ -6,7 +6,7 @@ use mathlib.Core.Bool.{true, false, not}
 use mathlib.Core.List.{List, [], _∷_, _++_}
 use borrow.Author.Tests.{not-true, not-false}
 use Rattle.layout.specs.Layout.{routinesOf, countsOf}
-use Rattle.book.specs.Book.{routineSteps}
+use Rattle.directory.specs.Directory.{routineSteps}
 use Rattle.book.specs.Accepted.{Accepted}
 use Rattle.game.specs.Game.{routineAt}
 use Rattle.round.specs.declared.Ending.{Ending}

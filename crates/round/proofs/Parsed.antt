@@ -7,8 +7,8 @@ use lib.ListN.{length}
 use Rattle.kinds.specs.Steps.{stepBytes}
 use Rattle.blocks.specs.Blocks.{deepest}
 use Rattle.blocks.specs.Parse.{ParsedBlock, WhilesPause}
-use Rattle.layout.specs.Layout.{routinesOf, stepCount, countsOf}
-use Rattle.book.specs.Book.{routineSteps}
+use Rattle.layout.specs.Layout.{routinesOf, countsOf}
+use Rattle.directory.specs.Directory.{stepCount, routineSteps}
 use Rattle.book.specs.Accepted.{Accepted}
 use Rattle.book.proofs.Laws.{PausingParse, own-places, shown-routine, shown-steps}
 use Rattle.round.specs.Jumps.{sizeOf}

@@ -9,7 +9,7 @@ use mathlib.Core.Logic.{_≢_}
 use native.Mathlib.Omega.{arith}
 use Rattle.numbers.specs.Choice.{if_then_else_}
 use Rattle.layout.specs.Layout.{routinesOf, countsOf}
-use Rattle.book.specs.Book.{routineSteps}
+use Rattle.directory.specs.Directory.{routineSteps}
 use Rattle.book.specs.Accepted.{Accepted}
 use Rattle.game.specs.Game.{routineAt}
 use Rattle.round.specs.declared.Ending.{Ending}

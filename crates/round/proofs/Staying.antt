@@ -9,7 +9,7 @@ use native.Mathlib.Omega.{arith}
 use lib.ListN.{length, length-set}
 use Rattle.blocks.proofs.Views.{standing-below}
 use Rattle.layout.specs.Layout.{mostRoutines, routinesOf, countsOf}
-use Rattle.book.specs.Book.{routineSteps}
+use Rattle.directory.specs.Directory.{routineSteps}
 use Rattle.book.specs.Accepted.{Accepted}
 use Rattle.game.specs.Game.{notStarted, continuing, ended, stopped, blank, routineAt, withRoutine}
 use Rattle.fitting.proofs.Decides.{SlotRight, parts-fit, fit-parts}

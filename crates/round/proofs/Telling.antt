@@ -10,10 +10,10 @@ use lib.Dec.{eqb}
 use lib.ListN.{length}
 use lib.IntN.{ℤ}
 use Rattle.numbers.proofs.Tests.{by-test}
-use Rattle.layout.specs.declared.Verdict.{Verdict}
-use Rattle.layout.specs.Verdicts.{accepted}
+use Rattle.verdicts.specs.declared.Verdict.{Verdict}
+use Rattle.verdicts.specs.Verdicts.{accepted}
 use Rattle.book.specs.Accepted.{Accepted}
-use Rattle.layout.proofs.First.{orElse-told}
+use Rattle.verdicts.proofs.First.{orElse-told}
 use Rattle.book.proofs.Telling.{told-only}
 use Rattle.game.specs.declared.Game.{Game}
 use Rattle.fitting.specs.Fits.{Fits}

@@ -7,8 +7,8 @@ use lib.ListN.{length, drop}
 use lib.IntN.{ℤ, pos}
 use Rattle.numbers.specs.Choice.{if_then_else_}
 use Rattle.kinds.specs.Steps.{opAt}
-use Rattle.layout.specs.declared.Verdict.{Verdict}
-use Rattle.layout.specs.Verdicts.{refused, _orElse_, unless}
+use Rattle.verdicts.specs.declared.Verdict.{Verdict}
+use Rattle.verdicts.specs.Verdicts.{refused, _orElse_, unless}
 use Rattle.layout.specs.Layout.{stepsOf}
 use Rattle.book.specs.Book.{stepsPart, bookVerdict}
 use Rattle.game.specs.declared.Game.{Game}

@@ -6,7 +6,7 @@ use lib.Dec.{eqb}
 use lib.ListN.{length}
 use Rattle.kinds.specs.Steps.{opAt}
 use Rattle.layout.specs.Layout.{mostSteps}
-use Rattle.book.specs.Book.{routineSteps}
+use Rattle.directory.specs.Directory.{routineSteps}
 use Rattle.game.specs.declared.Game.{Game}
 use Rattle.round.specs.State.{Happening, gave, ended, missing, past, marked, completed}
 use Rattle.round.specs.History.{stepsIn, howMany}

@@ -6,7 +6,7 @@ use mathlib.Core.List.{List}
 use mathlib.Core.Logic.{_⊎_}
 use Rattle.kinds.specs.declared.Counts.{Counts}
 use Rattle.layout.specs.Layout.{routinesOf, countsOf}
-use Rattle.book.specs.Book.{routineSteps}
+use Rattle.directory.specs.Directory.{routineSteps}
 use Rattle.game.specs.declared.Game.{Game}
 use Rattle.round.specs.declared.Position.{Position}
 use Rattle.round.specs.declared.Act.{Act}

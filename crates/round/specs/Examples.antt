@@ -7,9 +7,10 @@ use lib.IntN.{ℤ, pos}
 use lib.ListN.{length}
 use Rattle.kinds.specs.Steps.{rowOf, decoded, stepAt}
 use Rattle.blocks.specs.Blocks.{viewAt, blockBy, stepOf, routineOf, partnerOf}
-use Rattle.layout.specs.Verdicts.{refused, firstRefusal}
-use Rattle.layout.specs.Layout.{layoutVerdict, stepsBefore, directoryVerdict, countsOf}
-use Rattle.book.specs.Book.{routineSteps, stepsVerdict, routinePart, routineWalk, nestingVerdict, pausingVerdict, bookVerdict}
+use Rattle.verdicts.specs.Verdicts.{refused, firstRefusal}
+use Rattle.layout.specs.Layout.{layoutVerdict, countsOf}
+use Rattle.directory.specs.Directory.{stepsBefore, directoryVerdict, routineSteps, routinePart}
+use Rattle.book.specs.Book.{stepsVerdict, routineWalk, nestingVerdict, pausingVerdict, bookVerdict}
 use Rattle.book.specs.Examples.{step, joined, book, rest, t3}
 use Rattle.game.specs.declared.Game.{Game}
 use Rattle.game.specs.Below.{allBelow, anyBelow}

@@ -5,7 +5,7 @@ use mathlib.Core.Path.{_≡_}
 use mathlib.Core.List.{List, [], _∷_}
 use mathlib.Core.Logic.{_⊎_}
 use Rattle.numbers.specs.Choice.{if_then_else_}
-use Rattle.layout.specs.Layout.{stepCount}
+use Rattle.directory.specs.Directory.{stepCount}
 use Rattle.round.specs.State.{Happening}
 
 -- how many of the first n places pass a test

@@ -8,7 +8,7 @@ use lib.ListN.{set}
 use Rattle.numbers.specs.Choice.{if_then_else_}
 use Rattle.kinds.specs.declared.Counts.{Counts}
 use Rattle.layout.specs.Layout.{mostRoutines, mostSteps, countsOf}
-use Rattle.book.specs.Book.{routineSteps}
+use Rattle.directory.specs.Directory.{routineSteps}
 use Rattle.game.specs.declared.Game.{Game}
 use Rattle.game.specs.Lines.{entriesOf}
 use Rattle.game.specs.Game.{continuing, rested, ended, routineAt, withRoutine}

@@ -7,10 +7,11 @@ use lib.ListN.{take, replicate}
 use lib.IntN.{ℤ, pos, negsuc}
 use Rattle.kinds.specs.Steps.{rowOf, decoded, stepAt}
 use Rattle.blocks.specs.Blocks.{viewAt, blockBy, stepOf, routineOf, partnerOf}
-use Rattle.layout.specs.declared.Verdict.{Verdict}
-use Rattle.layout.specs.Verdicts.{accepted, firstRefusal}
-use Rattle.layout.specs.Layout.{mostRoutines, mostSignals, mostCounters, layoutVerdict, stepsBefore, directoryVerdict}
-use Rattle.book.specs.Book.{stepsVerdict, routinePart, routineWalk, nestingVerdict, pausingVerdict, bookVerdict}
+use Rattle.verdicts.specs.declared.Verdict.{Verdict}
+use Rattle.verdicts.specs.Verdicts.{accepted, firstRefusal}
+use Rattle.layout.specs.Layout.{mostRoutines, mostSignals, mostCounters, layoutVerdict}
+use Rattle.directory.specs.Directory.{stepsBefore, directoryVerdict, routinePart}
+use Rattle.book.specs.Book.{stepsVerdict, routineWalk, nestingVerdict, pausingVerdict, bookVerdict}
 use Rattle.book.specs.Examples as document
 use Rattle.game.specs.declared.Game.{Game}
 use Rattle.game.specs.Below.{allBelow, anyBelow}

@@ -5,8 +5,8 @@ use mathlib.Core.List.{List}
 use lib.Dec.{eqb}
 use lib.ListN.{length}
 use lib.IntN.{ℤ}
-use Rattle.layout.specs.declared.Verdict.{Verdict}
-use Rattle.layout.specs.Verdicts.{accepted, refused}
+use Rattle.verdicts.specs.declared.Verdict.{Verdict}
+use Rattle.verdicts.specs.Verdicts.{accepted, refused}
 use Rattle.book.specs.Accepted.{Accepted}
 use Rattle.book.specs.Tells.{Tells}
 use Rattle.game.specs.declared.Game.{Game}

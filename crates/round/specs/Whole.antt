@@ -15,7 +15,7 @@ use Rattle.kinds.specs.declared.Step.{Step}
 use Rattle.kinds.specs.Steps.{opAt, fieldA, fieldB, fieldN, stepAt}
 use Rattle.kinds.specs.Timed.{Timed}
 use Rattle.layout.specs.Layout.{countsOf}
-use Rattle.book.specs.Book.{routineSteps}
+use Rattle.directory.specs.Directory.{routineSteps}
 use Rattle.game.specs.declared.Game.{Game}
 use Rattle.game.specs.Game.{routineAt}
 use Rattle.game.specs.Game as stage

@@ -8,7 +8,7 @@ use Rattle.kinds.specs.Steps.{stepAt}
 use Rattle.blocks.specs.Blocks.{View, viewAt, deepest}
 use Rattle.blocks.specs.Parse.{ParsedBlock}
 use Rattle.layout.specs.Layout.{routinesOf, countsOf}
-use Rattle.book.specs.Book.{routineSteps}
+use Rattle.directory.specs.Directory.{routineSteps}
 use Rattle.book.specs.Accepted.{Accepted}
 use Rattle.book.proofs.Laws.{own-places}
 use Rattle.round.specs.declared.Ending.{Ending}

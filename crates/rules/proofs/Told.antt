@@ -6,7 +6,7 @@ use mathlib.Core.Bool.{false}
 use mathlib.Core.List.{List, [], _∷_, _++_, append-assoc, append-nil}
 use Rattle.kinds.specs.declared.Counts.{Counts}
 use Rattle.layout.specs.Layout.{routinesOf, countsOf}
-use Rattle.book.specs.Book.{routineSteps}
+use Rattle.directory.specs.Directory.{routineSteps}
 use Rattle.book.specs.Accepted.{Accepted}
 use Rattle.fitting.proofs.Decides.{fit-lists}
 use Rattle.round.specs.declared.Ending.{Ending}

@@ -16,7 +16,7 @@ use Rattle.kinds.specs.Steps.{stepAt}
 use Rattle.blocks.specs.Blocks.{View}
 use Rattle.blocks.specs.Parse.{ParsedBlock, empty, more, ParsedStep, plain, pausing, ifOnly, ifElse, loop}
 use Rattle.layout.specs.Layout.{routinesOf, countsOf}
-use Rattle.book.specs.Book.{routineSteps}
+use Rattle.directory.specs.Directory.{routineSteps}
 use Rattle.book.specs.Accepted.{Accepted}
 use Rattle.round.specs.declared.Position.{Position}
 use Rattle.rules.specs.Instructions.{signal, mark, set, add, take, Expression, Instruction, nothing, call, _then_, while, whileInst}

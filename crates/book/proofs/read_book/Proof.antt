@@ -3,10 +3,11 @@
 use mathlib.Core.Path.{_≡_, sym, ap, _∙_}
 use borrow.Author.Needs.{needs}
 use borrow.Author.Tests.{ne-eqb}
-use Rattle.layout.specs.Verdicts.{accepted, verdictOf}
-use Rattle.layout.specs.Layout.{layoutVerdict, directoryVerdict}
+use Rattle.verdicts.specs.Verdicts.{accepted, verdictOf}
+use Rattle.layout.specs.Layout.{layoutVerdict}
+use Rattle.directory.specs.Directory.{directoryVerdict}
 use Rattle.book.specs.Book.{stepsVerdict, bookVerdict}
-use Rattle.book.proofs.Answers.{refuses}
+use Rattle.verdicts.proofs.Answers.{refuses}
 use Rattle.book.proofs.read_book.Statement.{statement}
 use Rattle.book.proofs.read_book.Tie as tie
 

@@ -7,12 +7,11 @@ use mathlib.Core.List.{List, []}
 use native.Mathlib.Omega.{arith}
 use borrow.Author.Needs.{needs}
 use borrow.Author.Tests.{ne-eqb, le-ltb}
-use Rattle.layout.specs.Verdicts.{verdictOf}
+use Rattle.verdicts.specs.Verdicts.{verdictOf}
 use Rattle.layout.specs.Layout.{routinesOf}
 use Rattle.book.specs.Book.{bookVerdict, shown, shownFrom}
-use Rattle.book.proofs.Answers.{refuses}
-use Rattle.layout.proofs.Directory.{routine-start}
-use Rattle.book.proofs.Parts.{begins-there}
+use Rattle.verdicts.proofs.Answers.{refuses}
+use Rattle.directory.proofs.Directory.{routine-start, begins-there}
 use Rattle.book.proofs.Laws.{shown-none, shown-routine, shown-from}
 use Rattle.book.proofs.Telling.{number-accepted}
 use Rattle.book.proofs.show.Statement.{statement}

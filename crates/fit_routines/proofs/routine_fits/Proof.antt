@@ -5,7 +5,7 @@ use mathlib.Core.Logic.{⊎-elim}
 use lib.Dec.{leb}
 use borrow.Author.Needs.{needs}
 use borrow.Author.Tests.{le-leb, lt-leb}
-use Rattle.layout.specs.Layout.{stepCount}
+use Rattle.directory.specs.Directory.{stepCount}
 use Rattle.fit_routines.specs.Routines.{stageFits, startFits, routineFits}
 use Rattle.fit_routines.proofs.routine_fits.Statement.{statement}
 use Rattle.fit_routines.proofs.routine_fits.Tie as tie

@@ -3,7 +3,7 @@
 use mathlib.Core.Path.{_≡_}
 use borrow.Author.Needs.{needs}
 use borrow.Author.Tests.{le-leb, lt-leb}
-use Rattle.layout.specs.Verdicts.{refused, unless}
+use Rattle.verdicts.specs.Verdicts.{refused, unless}
 use Rattle.layout.specs.Layout.{layoutFits, layoutVerdict}
 use Rattle.layout.proofs.check_layout.Statement.{statement}
 use Rattle.layout.proofs.check_layout.Tie as tie

@@ -9,17 +9,18 @@ use native.Mathlib.Decide.{ℕ-discrete}
 use lib.Dec.{ltb}
 use borrow.Author.Needs.{needs}
 use Rattle.numbers.specs.Choice.{if_then_else_}
-use Rattle.layout.specs.declared.Verdict.{Verdict}
-use Rattle.layout.specs.declared.Answer.{Answer}
-use Rattle.layout.specs.declared.Answer.the-variants.{Accepted, TooShort, WrongCount, WrongLayout, WrongEntry, WrongStep}
-use Rattle.layout.specs.declared.Answer.the-variants.{WrongNesting, WithoutPause}
+use Rattle.verdicts.specs.declared.Verdict.{Verdict}
+use Rattle.verdicts.specs.declared.Answer.{Answer}
+use Rattle.verdicts.specs.declared.Answer.the-variants.{Accepted, TooShort, WrongCount, WrongLayout, WrongEntry, WrongStep}
+use Rattle.verdicts.specs.declared.Answer.the-variants.{WrongNesting, WithoutPause}
 use Rattle.blocks.specs.declared.Fault.the-variants.{Unreadable, Misnested}
 use Rattle.blocks.specs.declared.Walk.{Walk}
 use Rattle.blocks.specs.declared.Walk.the-variants as walk
-use Rattle.layout.specs.Verdicts.{accepted, refused, verdictOf, _orElse_, firstRefusal}
-use Rattle.layout.specs.Layout.{routinesOf, firstStep, stepCount}
+use Rattle.verdicts.specs.Verdicts.{accepted, refused, verdictOf, _orElse_, firstRefusal}
+use Rattle.layout.specs.Layout.{routinesOf}
+use Rattle.directory.specs.Directory.{firstStep, stepCount}
 use Rattle.book.specs.Book.{routineWalk, nestingOf, pausingOf, nestingAt, pausingAt, nestingVerdict, pausingVerdict}
-use Rattle.layout.proofs.First.{orElse-clear, orElse-refused, first-begins, first-stops, first-goes, first-ends, first-next}
+use Rattle.verdicts.proofs.First.{orElse-clear, orElse-refused, first-begins, first-stops, first-goes, first-ends, first-next}
 use Rattle.book.proofs.checks.check_blocks.Statement.{statement}
 use Rattle.book.proofs.checks.check_blocks.Tie as tie
 

@@ -14,12 +14,13 @@ use Rattle.blocks.specs.declared.Fault.{Fault}
 use Rattle.blocks.specs.declared.Fault.the-variants.{Unreadable, Misnested}
 use Rattle.blocks.specs.declared.Walk.{Walk}
 use Rattle.blocks.specs.declared.Walk.the-variants as walk
-use Rattle.layout.specs.Verdicts.{accepted, _orElse_}
-use Rattle.layout.specs.Layout.{routinesOf, stepsFrom, firstStep, stepCount, layoutVerdict, directoryVerdict, countsOf, routineFrom}
+use Rattle.verdicts.specs.Verdicts.{accepted, _orElse_}
+use Rattle.layout.specs.Layout.{routinesOf, stepsFrom, layoutVerdict, countsOf}
+use Rattle.directory.specs.Directory.{firstStep, stepCount, directoryVerdict, routineFrom, routinePart}
 use Rattle.blocks.specs.Blocks.{viewAt, routineOf}
-use Rattle.book.specs.Book.{routinePart, routineWalk, nestingOf, pausingOf, nestingAt, pausingAt}
+use Rattle.book.specs.Book.{routineWalk, nestingOf, pausingOf, nestingAt, pausingAt}
 use Rattle.book.proofs.Decided.{directed}
-use Rattle.layout.proofs.Directory.{routine-start}
+use Rattle.directory.proofs.Directory.{routine-start}
 use Rattle.blocks.proofs.Faults.{misnested, unreadable-at}
 use Rattle.book.proofs.Laid.{laid-out}
 use Rattle.numbers.proofs.Parts.{rest-from}

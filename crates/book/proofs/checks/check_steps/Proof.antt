@@ -5,16 +5,16 @@ use mathlib.Core.Path.{_≡_, sym, ap, _∙_}
 use mathlib.Core.List.{List}
 use native.Mathlib.Omega.{arith}
 use borrow.Author.Needs.{needs}
-use Rattle.layout.specs.declared.Verdict.{Verdict}
+use Rattle.verdicts.specs.declared.Verdict.{Verdict}
 use Rattle.kinds.specs.declared.Counts.{Counts}
 use Rattle.kinds.specs.declared.Kind.{Kind}
 use Rattle.kinds.specs.declared.Step.the-variants as step
-use Rattle.layout.specs.Verdicts.{accepted, refused, firstRefusal}
+use Rattle.verdicts.specs.Verdicts.{accepted, refused, firstRefusal}
 use Rattle.layout.specs.Layout.{stepsOf, countsOf}
 use Rattle.kinds.specs.Steps.{stepAt}
 use Rattle.book.specs.Book.{stepsPart, stepVerdict, stepsVerdict}
 use Rattle.book.proofs.Laid.{laid-out}
-use Rattle.layout.proofs.First.{first-begins, first-stops, first-goes, first-ends}
+use Rattle.verdicts.proofs.First.{first-begins, first-stops, first-goes, first-ends}
 use Rattle.numbers.proofs.Parts.{rest-from}
 use Rattle.book.proofs.checks.check_steps.Statement.{statement}
 use Rattle.book.proofs.checks.check_steps.Tie as tie

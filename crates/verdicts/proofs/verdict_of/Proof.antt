@@ -1,7 +1,7 @@
--- `book::verdict_of` meets its contract: in each arm the answer is known, so that the contract's verdict computes to what `told` gives.
+-- `verdicts::verdict_of` meets its contract: in each arm the answer is known, so that the contract's verdict computes to what `told` gives.
 use borrow.Author.Needs.{needs}
-use Rattle.book.proofs.verdict_of.Statement.{statement}
-use Rattle.book.proofs.verdict_of.Tie as tie
+use Rattle.verdicts.proofs.verdict_of.Statement.{statement}
+use Rattle.verdicts.proofs.verdict_of.Tie as tie
 
 -- first that each arm's variant is known, and that it may call `told`; then what each arm gives
 pub verdict-of-spec : {M : Type 1} → statement M

@@ -1,4 +1,4 @@
--- `layout::check_directory` meets its contract. The invariant: the search for the first wrong entry from `routine` on is the whole
+-- `directory::check_directory` meets its contract. The invariant: the search for the first wrong entry from `routine` on is the whole
 -- search, and `sum` is the sum of the counts before `routine`.
 use Prim.Native.Nat.{ℕ, _+_, _-_, _*_, _<_, _≤_}
 use mathlib.Core.Path.{_≡_, refl, sym, _∙_}
@@ -10,12 +10,13 @@ use borrow.Author.Tests.{eq-eqb, ne-eqb}
 use lib.Dec.{eqb}
 use Rattle.numbers.specs.Choice.{if_then_else_}
 use Rattle.numbers.specs.Numbers.{halfLimit}
-use Rattle.layout.specs.declared.Verdict.{Verdict}
-use Rattle.layout.specs.Verdicts.{accepted, refused, firstRefusal}
-use Rattle.layout.specs.Layout.{routinesOf, stepsOf, firstStep, stepCount, stepsBefore, entryVerdict, directoryVerdict}
-use Rattle.layout.proofs.First.{first-begins, first-stops, first-goes, first-ends}
-use Rattle.layout.proofs.check_directory.Statement.{statement}
-use Rattle.layout.proofs.check_directory.Tie as tie
+use Rattle.verdicts.specs.declared.Verdict.{Verdict}
+use Rattle.verdicts.specs.Verdicts.{accepted, refused, firstRefusal}
+use Rattle.layout.specs.Layout.{routinesOf, stepsOf}
+use Rattle.directory.specs.Directory.{firstStep, stepCount, stepsBefore, entryVerdict, directoryVerdict}
+use Rattle.verdicts.proofs.First.{first-begins, first-stops, first-goes, first-ends}
+use Rattle.directory.proofs.check_directory.Statement.{statement}
+use Rattle.directory.proofs.check_directory.Tie as tie
 
 -- the search from routine r on
 abbrev search-from : List ℕ → ℕ → ℕ → Verdict

@@ -3,10 +3,10 @@ use Prim.Native.Nat.{ℕ, zero, suc, _+_}
 use mathlib.Core.Bool.{Bool}
 use lib.Dec.{eqb}
 use Rattle.numbers.specs.Choice.{if_then_else_}
-use Rattle.layout.specs.declared.Verdict.{Verdict}
-use Rattle.layout.specs.declared.Answer.{Answer}
-use Rattle.layout.specs.declared.Answer.the-variants.{Accepted, TooShort, WrongCount, WrongLayout, WrongEntry, WrongStep}
-use Rattle.layout.specs.declared.Answer.the-variants.{WrongNesting, WithoutPause}
+use Rattle.verdicts.specs.declared.Verdict.{Verdict}
+use Rattle.verdicts.specs.declared.Answer.{Answer}
+use Rattle.verdicts.specs.declared.Answer.the-variants.{Accepted, TooShort, WrongCount, WrongLayout, WrongEntry, WrongStep}
+use Rattle.verdicts.specs.declared.Answer.the-variants.{WrongNesting, WithoutPause}
 
 -- "both 0 where nothing is turned down"
 abbrev pub accepted : Verdict

@@ -1,4 +1,4 @@
--- `book::routine_steps` meets its contract: a routine that begins past the book's end has the empty part at the book's start, one that
+-- `directory::routine_steps` meets its contract: a routine that begins past the book's end has the empty part at the book's start, one that
 -- ends past it the rest of the book, and any other lies whole in the book.
 use Prim.Native.Nat.{ℕ, _+_, _-_, _*_, _<_, _≤_}
 use mathlib.Core.Path.{_≡_, refl, sym, _∙_}
@@ -9,12 +9,11 @@ use lib.Seq.{take-all, take-nil}
 use borrow.Author.Needs.{needs}
 use borrow.Author.Tests.{lt-leb}
 use Rattle.kinds.specs.Steps.{stepBytes}
-use Rattle.layout.specs.Layout.{stepCount, routineFrom}
-use Rattle.book.specs.Book.{routinePart, routineSteps, routineStepsFrom}
+use Rattle.directory.specs.Directory.{stepCount, routineFrom, routinePart, routineSteps, routineStepsFrom}
 use Rattle.numbers.proofs.Parts.{rest-from}
-use Rattle.book.proofs.Parts.{begins-there}
-use Rattle.book.proofs.routine_steps.Statement.{statement}
-use Rattle.book.proofs.routine_steps.Tie as tie
+use Rattle.directory.proofs.Directory.{begins-there}
+use Rattle.directory.proofs.routine_steps.Statement.{statement}
+use Rattle.directory.proofs.routine_steps.Tie as tie
 
 -- where the routine begins, and the bytes of its steps, as the code has them
 module _ (s : List ℕ) (r : ℕ) {from size : ℕ} (begins : from ≡ routineFrom s r) (bytes : size ≡ stepBytes * stepCount s r) where

@@ -6,11 +6,11 @@ use mathlib.Core.List.{List, [], _∷_}
 use native.Mathlib.Omega.{arith}
 use types.Run.{OneOf, miss}
 use denote.Enum.Declared.{tagOf}
-use Rattle.layout.specs.declared.Answer.{Answer}
-use Rattle.layout.specs.declared.Answer.the-variants.{Accepted, TooShort, WrongCount, WrongLayout, WrongEntry, WrongStep}
-use Rattle.layout.specs.declared.Answer.the-variants.{WrongNesting, WithoutPause}
-use Rattle.layout.specs.Verdicts.{verdictOf}
-use Rattle.layout.proofs.Answer.{the-type}
+use Rattle.verdicts.specs.declared.Answer.{Answer}
+use Rattle.verdicts.specs.declared.Answer.the-variants.{Accepted, TooShort, WrongCount, WrongLayout, WrongEntry, WrongStep}
+use Rattle.verdicts.specs.declared.Answer.the-variants.{WrongNesting, WithoutPause}
+use Rattle.verdicts.specs.Verdicts.{verdictOf}
+use Rattle.verdicts.proofs.Answer.{the-type}
 
 -- the variants behind the first
 abbrev refusals : List ℕ

@@ -6,16 +6,22 @@ use mathlib.Core.List.{List}
 use native.Mathlib.Omega.{arith}
 use native.Mathlib.Decide.{ℕ-discrete}
 use lib.ListN.{length, List·getD-eq-default}
+use borrow.Author.Tests.{le-leb}
 use Rattle.numbers.specs.Numbers.{halfAt}
 use Rattle.kinds.specs.Steps.{stepBytes}
-use Rattle.layout.specs.Layout.{headerBytes, entryBytes, routinesOf, stepsOf, stepsFrom, firstStep, stepCount, stepsBefore}
-use Rattle.layout.specs.Layout.{routineFrom}
+use Rattle.layout.specs.Layout.{headerBytes, entryBytes, routinesOf, stepsOf, stepsFrom}
+use Rattle.directory.specs.Directory.{firstStep, stepCount, stepsBefore, routineFrom, routineStepsFrom}
 
 -- the numbers of routine r's entry, in a book without bytes there
 pub entry-missing : (s : List ℕ) {r : ℕ} (k : ℕ) → length s / entryBytes ≤ r → halfAt s (headerBytes + k + entryBytes * r) ≡ 0
 entry-missing s {r} k h =
     let at = headerBytes + k + entryBytes * r in
     rw (List·getD-eq-default s 0 {n = at} (omega arith), List·getD-eq-default s 0 {n = at + 1} (omega arith))
+
+-- a routine that begins in the book has its steps there
+pub begins-there : (s : List ℕ) (r : ℕ) → routineFrom s r ≤ length s → routineStepsFrom s r ≡ routineFrom s r
+unfolding routineStepsFrom
+begins-there s r h = rw (le-leb _ _ h)
 
 -- the first n entries keep the directory's rule
 abbrev pub Entries : List ℕ → ℕ → Type 0

@@ -1,0 +1,49 @@
+// What reading a book answers, and the number and place that it stands for. Document 01, "Turned down because of the input".
+ghost use mathlib.Core.Path.{_≡_};
+ghost use Rattle.verdicts.specs.Verdicts.{refused, verdictOf};
+
+// What reading a book answers: accepted, or the first refusal that applies, with its place where it has one.
+pub enum Answer {
+    Accepted,
+    TooShort,
+    WrongCount,
+    WrongLayout,
+    WrongEntry(u32),
+    WrongStep(u32),
+    WrongNesting(u32),
+    WithoutPause(u32),
+}
+
+// A refusal's number and place; both 0 where nothing is turned down.
+#[repr(C)]
+pub struct Verdict {
+    pub number: u32,
+    pub place: u32,
+}
+
+// The numbers of the refusals that reading blocks tells before any other.
+pub const WRONG_STEP: u32 = 5;
+
+pub const WRONG_NESTING: u32 = 6;
+
+// The number and the place of an answer.
+pub fn verdict_of(answer: Answer) -> Verdict
+    ensures { λ r. ⌜ r ≡ verdictOf answer ⌝ }
+{
+    match answer {
+        Answer::Accepted => told(0, 0),
+        Answer::TooShort => told(1, 0),
+        Answer::WrongCount => told(2, 0),
+        Answer::WrongLayout => told(3, 0),
+        Answer::WrongEntry(routine) => told(4, routine),
+        Answer::WrongStep(step) => told(WRONG_STEP, step),
+        Answer::WrongNesting(step) => told(WRONG_NESTING, step),
+        Answer::WithoutPause(step) => told(7, step),
+    }
+}
+
+fn told(number: u32, place: u32) -> Verdict
+    ensures { λ r. ⌜ r ≡ refused number place ⌝ }
+{
+    Verdict { number, place }
+}
