@@ -509,7 +509,8 @@ use mathlib.Core.List.{List, [], _∷_}
 use lib.ListN.{replicate}
 use lib.IntN.{ℤ, pos, negsuc}
 use Rattle.kinds.specs.Steps.{rowOf, decoded, stepAt}
-use Rattle.blocks.specs.Blocks.{blockBy, stepOf, routineOf, partnerOf}
+use Rattle.blocks.specs.Blocks.{blockBy, stepOf, routineOf}
+use Rattle.partners.specs.Partners.{partnerOf}
 use Rattle.layout.specs.Layout.{layoutVerdict}
 use Rattle.book.specs.Book.{bookVerdict}
 use Rattle.game.specs.Below.{allBelow, anyBelow}

@@ -1,9 +1,9 @@
--- Blocks: how they nest, whether they pause, and where an opening's partner is.
+-- Blocks: how they nest, and whether they pause.
 -- Document 01: "A block is a run of steps, and a step may hold blocks: an if one or two (a missing second does nothing), a while one."
 use Prim.Native.Nat.{ℕ, zero, suc, _+_, _-_, min}
 use mathlib.Core.Bool.{Bool, true, false, _&&_, _||_}
 use mathlib.Core.List.{List}
-use lib.Dec.{eqb, ltb}
+use lib.Dec.{ltb}
 use Rattle.numbers.specs.Choice.{if_then_else_}
 use Rattle.kinds.specs.declared.Step.{Step}
 use Rattle.kinds.specs.declared.Step.the-variants as step
@@ -15,7 +15,7 @@ use Rattle.blocks.specs.declared.Fault.the-variants.{Unreadable, Misnest
 use Rattle.blocks.specs.declared.Walk.{Walk}
 use Rattle.blocks.specs.declared.Walk.the-variants as walk
 use Rattle.kinds.specs.Forms.{formOf, isElse, isEnd}
-use Rattle.kinds.specs.Steps.{stepAt, opAt}
+use Rattle.kinds.specs.Steps.{stepAt}
 
 -- what stands at a place of a routine: a step, a step that is turned down, or nothing, behind the last step
 pub data View : Type 0 where
@@ -110,33 +110,3 @@ module _ (at : ℕ → View) (n : ℕ) where
   -- a marker that stops the routine's own block is "a marker without its opening"
   unfoldable pub routineOf : Walk
   routineOf = andThen (blockOf deepest 0) (λ q u l. if ltb q n then walk.Fault (Misnested q) else walk.Past q u l)
-
--- "17 if, 19 while", "18 else, 20 end"
-abbrev pub opIf : ℕ
-opIf = 17
-
-abbrev pub opElse : ℕ
-opElse = 18
-
-abbrev pub opWhile : ℕ
-opWhile = 19
-
-abbrev pub opEnd : ℕ
-opEnd = 20
-
--- "The search for an opening step's partner skips inner pairs and stops at the first marker that matches."
--- Where a routine nests, the first marker in no inner pair is the one that matches. d inner pairs are open at place p.
-abbrev pub partnerBy : (ℕ → ℕ) → ℕ → ℕ → ℕ → ℕ
-partnerBy on op d p =
-    let deeper = on (d + 1) in
-    let same = on d in
-    let higher = on (d - 1) in
-    if eqb op opIf || eqb op opWhile then deeper
-    else if eqb op opElse then (if eqb d 0 then p else same)
-    else if eqb op opEnd then (if eqb d 0 then p else higher)
-    else same
-
--- k steps are left from place p
-unfoldable pub partnerOf : List ℕ → ℕ → ℕ → ℕ → ℕ
-partnerOf s zero d p = p
-partnerOf s (suc k) d p = partnerBy (λ e. partnerOf s k e (p + 1)) (opAt s p) d p

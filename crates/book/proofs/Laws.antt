@@ -17,7 +17,8 @@ use Rattle.kinds.specs.declared.Form.the-variants.{ElseMarker, EndMarker}
 use Rattle.layout.specs.Layout.{routinesOf, stepsOf, countsOf}
 use Rattle.directory.specs.Directory.{firstStep, stepCount, routineFrom, routinePart, routineSteps}
 use Rattle.kinds.specs.Steps.{stepBytes, stepAt}
-use Rattle.blocks.specs.Blocks.{View, stands, viewAt, deepest, partnerOf}
+use Rattle.blocks.specs.Blocks.{View, stands, viewAt, deepest}
+use Rattle.partners.specs.Partners.{partnerOf}
 use Rattle.book.specs.Book.{stepsPart, viewOf, shown, shownFrom}
 use Rattle.blocks.specs.Parse.{ParsedBlock, WhilesPause}
 use Rattle.book.specs.Accepted.{Accepted}
@@ -25,7 +26,7 @@ use Rattle.book.specs.Tells.{nothing}
 use Rattle.directory.proofs.Directory as directory
 use Rattle.kinds.proofs.Readable.{rowAt, readable-step}
 use Rattle.book.proofs.Parts.{step-of-book, step-taken, step-routine, shown-length}
-use Rattle.blocks.proofs.Scan.{finds-partner}
+use Rattle.partners.proofs.Scan.{finds-partner}
 use Rattle.book.proofs.Telling.{told-only}
 
 -- what stands at a place of what is shown of routine r

@@ -2,7 +2,6 @@
 use crate::first_answer;
 use blocks::Fault;
 use blocks::Walk;
-use blocks::read_routine;
 use directory::first_step;
 use directory::step_count;
 use kinds::STEP_BYTES;
@@ -12,6 +11,7 @@ use layout::counts_of;
 use layout::routines;
 use layout::steps;
 use layout::steps_from;
+use readers::read_routine;
 use verdicts::Answer;
 use verdicts::WRONG_NESTING;
 use verdicts::WRONG_STEP;

@@ -13,7 +13,7 @@ use Rattle.kinds.specs.declared.Step.{Step}
 use Rattle.kinds.specs.declared.Step.the-variants as step
 use Rattle.kinds.specs.declared.Row.{Row}
 use Rattle.kinds.specs.Steps.{table, opAt, fieldA, fieldB, fieldN, stepAt}
-use Rattle.blocks.proofs.Scan.{Rows, _and_, step-holds, row-kind}
+use Rattle.partners.proofs.Scan.{Rows, _and_, step-holds, row-kind}
 use Rattle.layout.specs.Layout.{countsOf}
 use Rattle.directory.specs.Directory.{routineSteps}
 use Rattle.book.specs.Accepted.{Accepted}

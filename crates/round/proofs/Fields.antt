@@ -13,7 +13,7 @@ use Rattle.kinds.specs.declared.Counts.{Counts}
 use Rattle.kinds.specs.declared.Row.{Row}
 use Rattle.kinds.specs.Steps.{table, fieldA, fieldB, fieldN, stepAt}
 use Rattle.kinds.proofs.Readable.{step-readable}
-use Rattle.blocks.proofs.Scan.{Rows, _and_, step-holds, row-kind}
+use Rattle.partners.proofs.Scan.{Rows, _and_, step-holds, row-kind}
 use Rattle.round.proofs.Acts.{InRange}
 
 -- what the fields of a kind are

@@ -20,7 +20,7 @@ use Rattle.kinds.specs.declared.Form.the-variants.{Plain, Pausing, IfOpening, E
 use Rattle.kinds.specs.Steps.{table, opAt, fieldA, fieldB, fieldN, stepAt}
 use Rattle.kinds.specs.Forms.{formOf}
 use Rattle.blocks.specs.Blocks.{View, stands}
-use Rattle.blocks.proofs.Scan.{Rows, _and_, step-holds, row-kind, kind-there}
+use Rattle.partners.proofs.Scan.{Rows, _and_, step-holds, row-kind, kind-there}
 use Rattle.round.specs.Jumps.{sizeOf}
 use Rattle.round.proofs.Leads.{formAt}
 

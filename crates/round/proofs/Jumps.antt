@@ -19,9 +19,10 @@ use Rattle.kinds.specs.declared.Form.{Form}
 use Rattle.kinds.specs.declared.Form.the-variants.{Plain, Pausing, IfOpening, ElseMarker, WhileOpening, EndMarker}
 use Rattle.kinds.specs.Steps.{table, opAt, fieldA, fieldB, fieldN}
 use Rattle.kinds.specs.Forms.{formOf}
-use Rattle.blocks.specs.Blocks.{View, stands, opWhile}
+use Rattle.blocks.specs.Blocks.{View, stands}
+use Rattle.partners.specs.Partners.{opWhile}
 use Rattle.blocks.specs.Parse.{ParsedBlock, empty, more, ParsedStep, plain, pausing, ifOnly, ifElse, loop}
-use Rattle.blocks.proofs.Scan.{Rows, _and_, step-holds, row-kind, kind-there, finds-partner}
+use Rattle.partners.proofs.Scan.{Rows, _and_, step-holds, row-kind, kind-there, finds-partner}
 use Rattle.round.specs.Jumps.{sizeOf, pastPartner, openingBy, openingBefore, fromEnd}
 use Rattle.round.proofs.Leads.{formAt}
 

@@ -6,7 +6,8 @@ use mathlib.Core.List.{List, [], _∷_, map}
 use lib.IntN.{ℤ, pos}
 use lib.ListN.{length}
 use Rattle.kinds.specs.Steps.{rowOf, decoded, stepAt}
-use Rattle.blocks.specs.Blocks.{viewAt, blockBy, stepOf, routineOf, partnerOf}
+use Rattle.blocks.specs.Blocks.{viewAt, blockBy, stepOf, routineOf}
+use Rattle.partners.specs.Partners.{partnerOf}
 use Rattle.verdicts.specs.Verdicts.{refused, firstRefusal}
 use Rattle.layout.specs.Layout.{layoutVerdict, countsOf}
 use Rattle.directory.specs.Directory.{stepsBefore, directoryVerdict, routineSteps, routinePart}

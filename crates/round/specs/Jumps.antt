@@ -7,7 +7,7 @@ use lib.Dec.{eqb}
 use lib.ListN.{length}
 use Rattle.numbers.specs.Choice.{if_then_else_}
 use Rattle.kinds.specs.Steps.{stepBytes, opAt}
-use Rattle.blocks.specs.Blocks.{opIf, opWhile, opEnd, partnerOf}
+use Rattle.partners.specs.Partners.{opIf, opWhile, opEnd, partnerOf}
 
 -- how many steps a routine's part of the book has
 abbrev pub sizeOf : List ℕ → ℕ

@@ -6,7 +6,8 @@ use mathlib.Core.List.{List, [], _∷_, map}
 use lib.ListN.{take, replicate}
 use lib.IntN.{ℤ, pos, negsuc}
 use Rattle.kinds.specs.Steps.{rowOf, decoded, stepAt}
-use Rattle.blocks.specs.Blocks.{viewAt, blockBy, stepOf, routineOf, partnerOf}
+use Rattle.blocks.specs.Blocks.{viewAt, blockBy, stepOf, routineOf}
+use Rattle.partners.specs.Partners.{partnerOf}
 use Rattle.verdicts.specs.declared.Verdict.{Verdict}
 use Rattle.verdicts.specs.Verdicts.{accepted, firstRefusal}
 use Rattle.layout.specs.Layout.{mostRoutines, mostSignals, mostCounters, layoutVerdict}

@@ -1,9 +1,9 @@
 -- `read_routine` meets its contract: what `read_block` ensures at the greatest depth, and the test of whether steps are left.
 use borrow.Author.Needs.{needs}
 use borrow.Author.Tests.{lt-ltb, le-ltb}
 use Rattle.blocks.specs.Blocks.{routineOf}
-use Rattle.blocks.proofs.read_routine.Statement.{statement}
-use Rattle.blocks.proofs.read_routine.Tie as tie
+use Rattle.readers.proofs.read_routine.Statement.{statement}
+use Rattle.readers.proofs.read_routine.Tie as tie
 
 returns : tie.Need-returns
 unfolding routineOf

@@ -1,11 +1,11 @@
--- `blocks::closed_at` meets its contract. The code's test of the place is the contract's, and the step that it then decodes
+-- `readers::closed_at` meets its contract. The code's test of the place is the contract's, and the step that it then decodes
 -- is the one that the contract sees there.
 use mathlib.Core.Path.{_≡_}
 use borrow.Author.Needs.{needs}
 use borrow.Author.Tests.{lt-ltb, le-ltb}
 use Rattle.blocks.specs.Blocks.{viewAt, stands}
-use Rattle.blocks.proofs.closed_at.Statement.{statement}
-use Rattle.blocks.proofs.closed_at.Tie as tie
+use Rattle.readers.proofs.closed_at.Statement.{statement}
+use Rattle.readers.proofs.closed_at.Tie as tie
 
 returns : tie.Need-returns
 unfolding viewAt

@@ -26,9 +26,10 @@ use Rattle.kinds.specs.declared.Form.the-variants.{Plain, Pausing, IfOpening, E
 use Rattle.kinds.specs.Steps.{table, rowOf, opAt, fieldA, fieldB, fieldN, stepAt}
 use Rattle.kinds.specs.Forms.{formOf}
 use Rattle.kinds.proofs.Readable.{rowAt, step-below, readable-step, step-readable}
-use Rattle.blocks.specs.Blocks.{View, stands, seen, viewAt, partnerBy, partnerOf}
+use Rattle.blocks.specs.Blocks.{View, stands, seen, viewAt}
+use Rattle.partners.specs.Partners.{partnerBy, partnerOf}
 use Rattle.blocks.specs.Parse.{ParsedBlock, empty, more, ParsedStep, plain, pausing, ifOnly, ifElse, loop}
 use Rattle.blocks.proofs.Views.{view-seen, standing-below}
 
 -- partnerBy's look at place p, by the form of the step there instead of its op
 abbrev pub lookAt : Form → (ℕ → ℕ) → ℕ → ℕ → ℕ

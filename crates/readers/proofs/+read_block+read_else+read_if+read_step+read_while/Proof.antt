@@ -11,32 +11,32 @@ use borrow.Author.Needs.{needs}
 use borrow.Author.Tests.{eq-eqb, ne-eqb}
 use borrow.Fn.Kinds.{In}
 use borrow.Fn.PlainCycle.{Measures, is, falls, and}
 use Rattle.blocks.specs.Blocks.{stands, viewAt, elseAt, andThen, closed, blockStep, blockBy, stepOf, blockOf, elseOf}
 use Rattle.blocks.proofs.Views.{view-beyond, view-seen}
-use Rattle.blocks.proofs.Reading.{block-more, step-once}
-use Rattle.blocks.proofs.read_block.Reads as read-block
-use Rattle.blocks.proofs.read_block.Kinds as block-kinds
-use Rattle.blocks.proofs.+read_block+read_else+read_if+read_step+read_while.Lts-read_block as block-lts
-use Rattle.blocks.proofs.read_else.Reads as read-else
-use Rattle.blocks.proofs.read_else.Kinds as else-kinds
-use Rattle.blocks.proofs.+read_block+read_else+read_if+read_step+read_while.Lts-read_else as else-lts
-use Rattle.blocks.proofs.read_if.Reads as read-if
-use Rattle.blocks.proofs.read_if.Kinds as if-kinds
-use Rattle.blocks.proofs.+read_block+read_else+read_if+read_step+read_while.Lts-read_if as if-lts
-use Rattle.blocks.proofs.read_step.Reads as read-step
-use Rattle.blocks.proofs.read_step.Kinds as step-kinds
-use Rattle.blocks.proofs.+read_block+read_else+read_if+read_step+read_while.Lts-read_step as step-lts
-use Rattle.blocks.proofs.read_while.Reads as read-while
-use Rattle.blocks.proofs.read_while.Kinds as while-kinds
-use Rattle.blocks.proofs.+read_block+read_else+read_if+read_step+read_while.Lts-read_while as while-lts
-use Rattle.blocks.proofs.closed_at.Reads as closed-at
-use Rattle.blocks.proofs.lower.Reads as lower
+use Rattle.readers.proofs.Reading.{block-more, step-once}
+use Rattle.readers.proofs.read_block.Reads as read-block
+use Rattle.readers.proofs.read_block.Kinds as block-kinds
+use Rattle.readers.proofs.+read_block+read_else+read_if+read_step+read_while.Lts-read_block as block-lts
+use Rattle.readers.proofs.read_else.Reads as read-else
+use Rattle.readers.proofs.read_else.Kinds as else-kinds
+use Rattle.readers.proofs.+read_block+read_else+read_if+read_step+read_while.Lts-read_else as else-lts
+use Rattle.readers.proofs.read_if.Reads as read-if
+use Rattle.readers.proofs.read_if.Kinds as if-kinds
+use Rattle.readers.proofs.+read_block+read_else+read_if+read_step+read_while.Lts-read_if as if-lts
+use Rattle.readers.proofs.read_step.Reads as read-step
+use Rattle.readers.proofs.read_step.Kinds as step-kinds
+use Rattle.readers.proofs.+read_block+read_else+read_if+read_step+read_while.Lts-read_step as step-lts
+use Rattle.readers.proofs.read_while.Reads as read-while
+use Rattle.readers.proofs.read_while.Kinds as while-kinds
+use Rattle.readers.proofs.+read_block+read_else+read_if+read_step+read_while.Lts-read_while as while-lts
+use Rattle.readers.proofs.closed_at.Reads as closed-at
+use Rattle.readers.proofs.lower.Reads as lower
 use Rattle.kinds.proofs.form_of.Reads as form-of
-use Rattle.blocks.proofs.is_else.Reads as is-else
-use Rattle.blocks.proofs.is_marker.Reads as is-marker
+use Rattle.readers.proofs.is_else.Reads as is-else
+use Rattle.readers.proofs.is_marker.Reads as is-marker
 use Rattle.kinds.proofs.step_at.Reads as step-at
-use Rattle.blocks.proofs.+read_block+read_else+read_if+read_step+read_while.{statement}
-use Rattle.blocks.proofs.+read_block+read_else+read_if+read_step+read_while.Tie.{close}
+use Rattle.readers.proofs.+read_block+read_else+read_if+read_step+read_while.{statement}
+use Rattle.readers.proofs.+read_block+read_else+read_if+read_step+read_while.Tie.{close}
 
 -- A step calls an if or a while with one less depth, the fourth argument; these call a block with the same, an if by way of its else
 -- too, and a block a step.
