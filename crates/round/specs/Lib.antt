@@ -12,5 +12,4 @@ pub mod Demand
 pub mod Completed
 pub mod Whole
 pub mod Again
-pub mod SetPlays
 pub mod Examples
