@@ -250,9 +250,9 @@ use Rattle.numbers.specs.Choice.{if_then_else_}
 use Rattle.layout.specs.Layout.{mostRoutines, mostSignals, routinesOf, countsOf}
 use Rattle.book.specs.Book.{bookVerdict, shown}
 use Rattle.game.specs.declared.Routine.{Routine}
-use Rattle.game.specs.declared.Line.{Line}
+use Rattle.lines.specs.declared.Line.{Line}
 use Rattle.game.specs.declared.Game.{Game}
-use Rattle.game.specs.Lines.{entriesOf}
+use Rattle.lines.specs.Lines.{entriesOf, isIn, appended}
 use Rattle.game.specs.Game.{blankGame, routineAt, isBroadcast, withCounter}
 use Rattle.orders.specs.declared.Outcome.{Outcome}
 use Rattle.orders.specs.SetUp.{unlessRefused, newGame, setUp}
@@ -513,8 +513,7 @@ use Rattle.blocks.specs.Blocks.{blockBy, stepOf, routineOf}
 use Rattle.partners.specs.Partners.{partnerOf}
 use Rattle.layout.specs.Layout.{layoutVerdict}
 use Rattle.book.specs.Book.{bookVerdict}
-use Rattle.game.specs.Below.{allBelow, anyBelow}
-use Rattle.game.specs.Lines.{isIn, appended}
+use Rattle.lines.specs.Below.{allBelow, anyBelow}
 use Rattle.game.specs.Game.{blankGame, withStart}
 use Rattle.fit_arrays.specs.Arrays.{entryFits, lineFits, countersFit, signalsFit}
 use Rattle.fit_routines.specs.Routines.{routineFits, slotFits}

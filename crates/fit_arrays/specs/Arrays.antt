@@ -8,9 +8,9 @@ use lib.IntN.{ℤ, pos}
 use Rattle.numbers.specs.Choice.{if_then_else_}
 use Rattle.numbers.specs.Numbers.{lowestCounter, highestCounter, isWithin}
 use Rattle.layout.specs.Layout.{mostSignals, mostCounters}
-use Rattle.game.specs.declared.Line.{Line}
-use Rattle.game.specs.Below.{allBelow}
-use Rattle.game.specs.Lines.{mostEntries, itemAt, isIn}
+use Rattle.lines.specs.declared.Line.{Line}
+use Rattle.lines.specs.Below.{allBelow}
+use Rattle.lines.specs.Lines.{mostEntries, itemAt, isIn}
 
 -- the entries of a list before entry i
 abbrev pub firstOf : Line → ℕ → Line

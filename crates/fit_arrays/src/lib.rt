@@ -1,15 +1,15 @@
 // Whether the lists, the counters and the signals to broadcast of a game fit a book: a part of refusal 9. Document 01, "The game".
-use game::Line;
-use game::MOST_ENTRIES;
-use game::lines::is_in;
 use layout::MOST_COUNTERS;
 use layout::MOST_SIGNALS;
+use lines::Line;
+use lines::MOST_ENTRIES;
+use lines::is_in;
 use numbers::HIGHEST_COUNTER;
 use numbers::LOWEST_COUNTER;
 use numbers::is_within;
 ghost use mathlib.Core.Path.{_≡_};
 ghost use Prim.Native.Nat.{_<_};
-ghost use Rattle.game.specs.Lines.{mostEntries};
+ghost use Rattle.lines.specs.Lines.{mostEntries};
 ghost use Rattle.fit_arrays.specs.Arrays.{entryFits, lineFits, counterFits, countersFit, signalFits, signalsFit};
 
 // A slot of a list: an entry, which is a routine of the book and stands there once, or behind the list's length, where nothing is kept.

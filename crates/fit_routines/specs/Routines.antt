@@ -11,7 +11,7 @@ use Rattle.layout.specs.Layout.{countsOf}
 use Rattle.directory.specs.Directory.{stepCount, routineSteps}
 use Rattle.game.specs.declared.Routine.{Routine}
 use Rattle.game.specs.declared.Game.{Game}
-use Rattle.game.specs.Lines.{isIn}
+use Rattle.lines.specs.Lines.{isIn}
 use Rattle.game.specs.Game.{notStarted, routineAt}
 
 -- "anything kept beyond them is 0", of a routine

@@ -8,15 +8,15 @@ use game::NOT_STARTED;
 use game::RESTED;
 use game::Routine;
 use game::STOPPED;
-use game::lines::is_in;
 use kinds::step_at;
 use kinds::timed_count;
 use layout::MOST_ROUTINES;
 use layout::counts_of;
+use lines::is_in;
 ghost use mathlib.Core.Path.{_≡_};
 ghost use Prim.Native.Nat.{_<_};
 ghost use Rattle.layout.specs.Layout.{mostRoutines};
-ghost use Rattle.game.specs.Below.{allBelow};
+ghost use Rattle.lines.specs.Below.{allBelow};
 ghost use Rattle.fit_routines.specs.Routines.{isBlank, stageFits, startFits, leftFits, routineFits, slotFits};
 
 // Whether the fields of a routine are all 0.

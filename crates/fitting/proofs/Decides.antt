@@ -18,7 +18,7 @@ use Rattle.layout.specs.Layout.{mostRoutines, mostSignals, mostCounters, routin
 use Rattle.book.specs.Accepted.{CountsInRange}
 use Rattle.game.specs.declared.Routine.{Routine}
 use Rattle.game.specs.declared.Game.{Game}
-use Rattle.game.specs.Lines.{mostEntries}
+use Rattle.lines.specs.Lines.{mostEntries}
 use Rattle.game.specs.Game.{blank, routineAt}
 use Rattle.fit_arrays.specs.Arrays.{countersFit, signalsFit}
 use Rattle.fit_routines.specs.Routines.{slotFits}

@@ -12,9 +12,9 @@ use Rattle.kinds.specs.Steps.{stepAt}
 use Rattle.kinds.specs.Timed.{Timed}
 use Rattle.layout.specs.Layout.{mostRoutines, mostSignals, mostCounters, routinesOf, signalsOf, countersOf, countsOf}
 use Rattle.directory.specs.Directory.{stepCount, routineSteps}
-use Rattle.game.specs.declared.Line.{Line}
+use Rattle.lines.specs.declared.Line.{Line}
 use Rattle.game.specs.declared.Game.{Game}
-use Rattle.game.specs.Lines.{mostEntries, itemAt}
+use Rattle.lines.specs.Lines.{mostEntries, itemAt}
 use Rattle.game.specs.Game.{notStarted, continuing, rested, stopped, blank, routineAt, counterAt, isBroadcast}
 
 -- routine r is in a list

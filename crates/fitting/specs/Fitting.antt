@@ -6,7 +6,7 @@ use lib.Dec.{eqb}
 use Rattle.kinds.specs.declared.Counts.{Counts}
 use Rattle.layout.specs.Layout.{mostRoutines, countsOf}
 use Rattle.game.specs.declared.Game.{Game}
-use Rattle.game.specs.Below.{allBelow}
+use Rattle.lines.specs.Below.{allBelow}
 use Rattle.fit_arrays.specs.Arrays.{lineFits, countersFit, signalsFit}
 use Rattle.fit_routines.specs.Routines.{slotFits}
 

@@ -12,9 +12,9 @@ use Rattle.numbers.specs.Choice.{if_then_else_}
 use Rattle.kinds.specs.declared.Counts.{Counts}
 use Rattle.layout.specs.Layout.{mostRoutines, mostSignals, mostCounters}
 use Rattle.game.specs.declared.Routine.{Routine}
-use Rattle.game.specs.declared.Line.{Line}
+use Rattle.lines.specs.declared.Line.{Line}
 use Rattle.game.specs.declared.Game.{Game}
-use Rattle.game.specs.Lines.{mostEntries, empty, isIn, pushed}
+use Rattle.lines.specs.Lines.{mostEntries, empty, isIn, pushed}
 
 -- "stage (0 not started, 1 continuing, 2 rested, 3 ended, 4 stopped)"; the paper's status is CONT in stage 1 and COOP in 2,
 -- and "Only stage 3 is TERM."

@@ -1,15 +1,14 @@
 // Games: what is kept between rounds. Document 01, "The game".
-pub mod lines;
-
 use kinds::Counts;
 use layout::MOST_COUNTERS;
 use layout::MOST_ROUTINES;
 use layout::MOST_SIGNALS;
+use lines::Line;
+use lines::MOST_ENTRIES;
+use lines::is_in;
+use lines::push;
 ghost use mathlib.Core.Path.{_≡_};
-ghost use Rattle.game.specs.Game.{blank, blankGame, withStop, withSuspend, withResume};
-
-// How many entries a list has room for.
-pub const MOST_ENTRIES: usize = 64;
+ghost use Rattle.game.specs.Game.{blank, blankGame, withStop, withSuspend, withResume, withStart};
 
 // The stages of a routine.
 pub const NOT_STARTED: u8 = 0;
@@ -32,12 +31,6 @@ pub struct Routine {
     pub stopping: bool,
     pub suspending: bool,
     pub resuming: bool,
-}
-
-// A list of routines: its first `len` entries.
-pub struct Line {
-    pub items: [u8; MOST_ENTRIES],
-    pub len: usize,
 }
 
 // A game: the numbers R, E and C, the routines, the counters, the playing order (the paper's actual), those to start (to_start), and the
@@ -114,4 +107,17 @@ pub fn with_resume(routine: Routine) -> Routine
     let mut next = routine;
     next.resuming = true;
     next
+}
+
+// Those to start, after a start of a routine, which is in this stage: one that is not in stage 0, or is already to start, adds nothing.
+pub fn with_start(line: Line, routine: u8, stage: u8) -> Line
+    ensures { λ r. ⌜ r ≡ withStart line routine stage ⌝ }
+{
+    if stage != NOT_STARTED {
+        return line;
+    }
+    if is_in(line, routine) {
+        return line;
+    }
+    push(line, routine)
 }

@@ -2,12 +2,12 @@
 // cannot hold are told, and leave the game as it is. A field goes by the place of its name in a list.
 use crate::printing::print_wrong;
 use game::Game;
-use game::Line;
-use game::MOST_ENTRIES;
 use game::Routine;
 use layout::MOST_COUNTERS;
 use layout::MOST_ROUTINES;
 use layout::MOST_SIGNALS;
+use lines::Line;
+use lines::MOST_ENTRIES;
 use words::place_in;
 
 // The largest value that a field of a routine can hold, by the field's place in `poke_routine`.

@@ -1,12 +1,12 @@
 // What is printed: verdicts, bytes and games.
 use game::Game;
-use game::Line;
-use game::MOST_ENTRIES;
 use game::Routine;
 use kinds::Counts;
 use layout::MOST_COUNTERS;
 use layout::MOST_ROUTINES;
 use layout::MOST_SIGNALS;
+use lines::Line;
+use lines::MOST_ENTRIES;
 use orders::RESUME;
 use orders::STOP;
 use orders::SUSPEND;

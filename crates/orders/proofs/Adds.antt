@@ -9,7 +9,7 @@ use lib.ListN.{getD, set}
 use Rattle.game.specs.declared.Routine.{Routine}
 use Rattle.game.specs.declared.Game.{Game}
 use Rattle.game.specs.Game.{notStarted, blank, routineAt, withStarting, withRoutine, Sized}
-use Rattle.game.specs.Lines.{isIn}
+use Rattle.lines.specs.Lines.{isIn}
 use Rattle.fitting.specs.Fits.{In, Fits}
 use Rattle.fitting.proofs.Lists.{is-in}
 use Rattle.orders.specs.Orders.{orderVerdict, obeyed, ordered}

@@ -7,9 +7,9 @@ use mathlib.Core.List.{List}
 use lib.ListN.{length, getD}
 use Rattle.layout.specs.Layout.{mostRoutines, mostSignals, routinesOf, signalsOf}
 use Rattle.game.specs.declared.Routine.{Routine}
-use Rattle.game.specs.declared.Line.{Line}
+use Rattle.lines.specs.declared.Line.{Line}
 use Rattle.game.specs.declared.Game.{Game}
-use Rattle.game.specs.Lines.{mostEntries}
+use Rattle.lines.specs.Lines.{mostEntries}
 use Rattle.game.specs.Game.{notStarted, blank, routineAt, Sized}
 use Rattle.fitting.specs.Fits.{In, Fits}
 use Rattle.fitting.proofs.Lists.{LineRight}

@@ -17,7 +17,7 @@ use Rattle.book.specs.Accepted.{Accepted}
 use Rattle.book.proofs.Telling.{accepted-tells}
 use Rattle.game.specs.declared.Game.{Game}
 use Rattle.game.specs.Game.{notStarted, blank, routineAt, Sized}
-use Rattle.game.specs.Lines.{mostEntries, empty, itemAt, pushed}
+use Rattle.lines.specs.Lines.{mostEntries, empty, itemAt, pushed}
 use Rattle.fitting.specs.Fits.{Fits}
 use Rattle.orders.specs.SetUp.{GivesFitting, newGame, setUp}
 use Rattle.orders.proofs.Games.{game-either}

@@ -12,9 +12,9 @@ use lib.ListN.{length, length-set}
 use lib.Seq.{getD-set-same, getD-set-other}
 use Rattle.numbers.proofs.Tests.{clash, and-both, by-test}
 use Rattle.layout.specs.Layout.{routinesOf}
-use Rattle.game.specs.declared.Line.{Line}
+use Rattle.lines.specs.declared.Line.{Line}
 use Rattle.game.specs.declared.Game.{Game}
-use Rattle.game.specs.Lines.{mostEntries, itemAt, isIn}
+use Rattle.lines.specs.Lines.{mostEntries, itemAt, isIn}
 use Rattle.game.specs.Game.{notStarted, routineAt, withStart}
 use Rattle.fitting.specs.Fits.{In}
 use Rattle.fitting.proofs.Lists.{joined, LineRight, is-in}

@@ -14,8 +14,8 @@ use Rattle.book.specs.Book.{stepsVerdict, routineWalk, nestingVerdict, pausingV
 use Rattle.book.specs.Examples.{t3}
 use Rattle.game.specs.declared.Routine.{Routine}
 use Rattle.game.specs.declared.Game.{Game}
-use Rattle.game.specs.Below.{allBelow, anyBelow}
-use Rattle.game.specs.Lines.{isIn}
+use Rattle.lines.specs.Below.{allBelow, anyBelow}
+use Rattle.lines.specs.Lines.{isIn}
 use Rattle.game.specs.Game.{continuing, ended, withRoutine, withStart}
 use Rattle.fit_arrays.specs.Arrays.{entryFits, lineFits, countersFit, signalsFit}
 use Rattle.fit_routines.specs.Routines.{routineFits, slotFits}

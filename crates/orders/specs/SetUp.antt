@@ -10,7 +10,7 @@ use Rattle.verdicts.specs.Verdicts.{accepted}
 use Rattle.layout.specs.Layout.{countsOf}
 use Rattle.book.specs.Book.{bookVerdict}
 use Rattle.game.specs.declared.Game.{Game}
-use Rattle.game.specs.Lines.{empty, pushed}
+use Rattle.lines.specs.Lines.{empty, pushed}
 use Rattle.game.specs.Game.{blankFor, withStarting}
 use Rattle.fitting.specs.Fits.{Fits}
 use Rattle.orders.specs.declared.Outcome.{Outcome}

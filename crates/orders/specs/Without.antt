@@ -5,7 +5,7 @@ use mathlib.Core.List.{[], _∷_, map}
 use lib.ListN.{getD, replicate}
 use Rattle.layout.specs.Layout.{mostSignals}
 use Rattle.game.specs.declared.Game.{Game}
-use Rattle.game.specs.Lines.{empty}
+use Rattle.lines.specs.Lines.{empty}
 use Rattle.game.specs.Game.{withFlags, withRoutines, withStarting, withBroadcast}
 
 -- by kind: the signals to broadcast, those to start, the sets to stop, suspend and resume

@@ -12,7 +12,7 @@ use Rattle.layout.specs.Layout.{routinesOf}
 use Rattle.book.specs.Accepted.{CountsInRange}
 use Rattle.game.specs.declared.Routine.{Routine}
 use Rattle.game.specs.declared.Game.{Game}
-use Rattle.game.specs.Lines.{mostEntries, entriesOf, appended}
+use Rattle.lines.specs.Lines.{mostEntries, entriesOf, appended}
 use Rattle.game.specs.Game.{blank, routineAt, Sized}
 use Rattle.fitting.specs.Fits.{Fits}
 use Rattle.orders.proofs.Stores.{entry-set, same-at}

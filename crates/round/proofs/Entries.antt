@@ -16,9 +16,9 @@ use Rattle.numbers.specs.Choice.{if_then_else_}
 use Rattle.numbers.proofs.Tests.{by-test}
 use Rattle.layout.specs.Layout.{routinesOf}
 use Rattle.book.specs.Accepted.{CountsInRange}
-use Rattle.game.specs.declared.Line.{Line}
+use Rattle.lines.specs.declared.Line.{Line}
 use Rattle.game.specs.declared.Game.{Game}
-use Rattle.game.specs.Lines.{mostEntries, itemAt, entriesOf, pushed, appended}
+use Rattle.lines.specs.Lines.{mostEntries, itemAt, entriesOf, pushed, appended}
 use Rattle.game.specs.Game.{Sized}
 use Rattle.fitting.specs.Fits.{Fits}
 use Rattle.fitting.proofs.Lists.{joined, LineRight, used-all}

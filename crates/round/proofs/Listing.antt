@@ -12,8 +12,8 @@ use borrow.Author.Tests.{lt-ltb}
 use lib.ListN.{length, getD, length-set, getD-replicate}
 use lib.Seq.{getD-set-other}
 use Rattle.numbers.proofs.Tests.{clash, by-test}
-use Rattle.game.specs.declared.Line.{Line}
-use Rattle.game.specs.Lines.{mostEntries, empty, itemAt, entriesOf, appended}
+use Rattle.lines.specs.declared.Line.{Line}
+use Rattle.lines.specs.Lines.{mostEntries, empty, itemAt, entriesOf, appended}
 use Rattle.fitting.specs.Fits.{In}
 use Rattle.fitting.proofs.Lists.{joined, LineRight}
 use Rattle.round.specs.Actions.{kept}

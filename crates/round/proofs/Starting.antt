@@ -13,7 +13,7 @@ use Rattle.layout.specs.Layout.{mostRoutines, mostSignals, routinesOf}
 use Rattle.book.specs.Accepted.{CountsInRange, Accepted}
 use Rattle.game.specs.declared.Routine.{Routine}
 use Rattle.game.specs.declared.Game.{Game}
-use Rattle.game.specs.Lines.{mostEntries, entriesOf}
+use Rattle.lines.specs.Lines.{mostEntries, entriesOf}
 use Rattle.game.specs.Game.{continuing, rested, ended, stopped, blank, routineAt, Sized}
 use Rattle.fitting.specs.Fits.{In, Fits}
 use Rattle.fitting.proofs.Lists.{LineRight}

@@ -8,7 +8,7 @@ use Rattle.numbers.specs.Choice.{if_then_else_}
 use Rattle.layout.specs.Layout.{mostSignals}
 use Rattle.game.specs.declared.Routine.{Routine}
 use Rattle.game.specs.declared.Game.{Game}
-use Rattle.game.specs.Lines.{empty, entriesOf, appended}
+use Rattle.lines.specs.Lines.{empty, entriesOf, appended}
 use Rattle.game.specs.Game.{continuing, rested, ended, stopped, blank, withFlags}
 use Rattle.round.specs.declared.Position.{Position}
 use Rattle.round.specs.State.{State}

@@ -14,8 +14,8 @@ use Rattle.directory.specs.Directory.{stepsBefore, directoryVerdict, routineSte
 use Rattle.book.specs.Book.{stepsVerdict, routineWalk, nestingVerdict, pausingVerdict, bookVerdict}
 use Rattle.book.specs.Examples.{step, joined, book, rest, t3}
 use Rattle.game.specs.declared.Game.{Game}
-use Rattle.game.specs.Below.{allBelow, anyBelow}
-use Rattle.game.specs.Lines.{isIn, appended}
+use Rattle.lines.specs.Below.{allBelow, anyBelow}
+use Rattle.lines.specs.Lines.{isIn, appended}
 use Rattle.game.specs.Game.{routineAt, blankGame, withStart}
 use Rattle.fit_arrays.specs.Arrays.{entryFits, lineFits, countersFit, signalsFit}
 use Rattle.fit_routines.specs.Routines.{routineFits, slotFits}

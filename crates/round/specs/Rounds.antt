@@ -10,7 +10,7 @@ use Rattle.kinds.specs.declared.Counts.{Counts}
 use Rattle.layout.specs.Layout.{mostRoutines, mostSteps, countsOf}
 use Rattle.directory.specs.Directory.{routineSteps}
 use Rattle.game.specs.declared.Game.{Game}
-use Rattle.game.specs.Lines.{entriesOf}
+use Rattle.lines.specs.Lines.{entriesOf}
 use Rattle.game.specs.Game.{continuing, rested, ended, routineAt, withRoutine}
 use Rattle.round.specs.declared.Ending.{Ending}
 use Rattle.round.specs.declared.Ending.the-variants.{Ended, Rested, Missed, Continued}

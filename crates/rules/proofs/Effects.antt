@@ -15,7 +15,7 @@ use Rattle.numbers.specs.declared.Sum.{Sum}
 use Rattle.numbers.proofs.Tests.{clash, and-both, by-test}
 use Rattle.layout.specs.Layout.{mostRoutines}
 use Rattle.game.specs.declared.Routine.{Routine}
-use Rattle.game.specs.Lines.{isIn, pushed, entriesOf}
+use Rattle.lines.specs.Lines.{isIn, pushed, entriesOf}
 use Rattle.game.specs.Game.{notStarted, blank, routineAt, withFlags, withRoutine, withStarting}
 use Rattle.game.specs.Game as game
 use Rattle.fitting.specs.Fits.{In}

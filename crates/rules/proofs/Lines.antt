@@ -10,9 +10,9 @@ use borrow.Author.Tests.{ne-eqb}
 use lib.Dec.{eqb}
 use lib.ListN.{length, getD, take}
 use lib.Seq.{take-suc}
-use Rattle.game.specs.declared.Line.{Line}
-use Rattle.game.specs.Below.{anyBelow}
-use Rattle.game.specs.Lines.{mostEntries, usedOf, isIn, entriesOf}
+use Rattle.lines.specs.declared.Line.{Line}
+use Rattle.lines.specs.Below.{anyBelow}
+use Rattle.lines.specs.Lines.{mostEntries, usedOf, isIn, entriesOf}
 use Rattle.fitting.proofs.Lists.{LineRight, used-all}
 use Rattle.rules.specs.Schedulers.{isAmong}
 

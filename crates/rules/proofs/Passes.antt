@@ -15,7 +15,7 @@ use Rattle.layout.specs.Layout.{routinesOf}
 use Rattle.directory.specs.Directory.{routineSteps}
 use Rattle.book.specs.Accepted.{Accepted}
 use Rattle.game.specs.declared.Routine.{Routine}
-use Rattle.game.specs.Lines.{entriesOf}
+use Rattle.lines.specs.Lines.{entriesOf}
 use Rattle.game.specs.Game.{continuing, routineAt}
 use Rattle.fitting.proofs.Decides.{fit-lists}
 use Rattle.round.specs.declared.Ending.{Ending}

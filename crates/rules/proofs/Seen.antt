@@ -4,7 +4,7 @@ use Prim.Native.Nat.{ℕ}
 use mathlib.Core.Path.{_≡_, refl, _∙_, ap}
 use mathlib.Core.List.{map}
 use lib.ListN.{set, List·getD-map}
-use Rattle.game.specs.Lines.{entriesOf}
+use Rattle.lines.specs.Lines.{entriesOf}
 use Rattle.game.specs.Game.{blank, routineAt, withRoutine}
 use Rattle.round.specs.declared.Ending.{Ending}
 use Rattle.round.specs.declared.Ending.the-variants.{Ended, Rested, Missed, Continued}

@@ -7,7 +7,7 @@ use mathlib.Core.List.{List, _++_}
 use lib.ListN.{length}
 use lib.IntN.{ℤ}
 use Rattle.kinds.specs.declared.Counts.{Counts}
-use Rattle.game.specs.Lines.{mostEntries}
+use Rattle.lines.specs.Lines.{mostEntries}
 use Rattle.fitting.proofs.Lists.{LineRight}
 use Rattle.round.specs.declared.Ending.{Ending}
 use Rattle.round.specs.declared.Ending.the-variants.{Ended, Rested, Missed, Continued}

@@ -4,7 +4,7 @@ use mathlib.Core.List.{List, map}
 use lib.Dec.{eqb}
 use lib.IntN.{ℤ}
 use Rattle.numbers.specs.Choice.{if_then_else_}
-use Rattle.game.specs.Lines.{entriesOf}
+use Rattle.lines.specs.Lines.{entriesOf}
 use Rattle.game.specs.Game.{continuing, rested, ended, notStarted}
 use Rattle.round.specs.State.{State}
 use Rattle.rules.specs.Instructions.{TERM, COOP, CONT}

@@ -5,10 +5,10 @@ use mathlib.Core.Path.{_≡_, refl, sym, _∙_}
 use mathlib.Core.Bool.{true}
 use borrow.Author.Needs.{needs}
 use borrow.Author.Tests.{le-leb, lt-leb, not-true, not-false}
-use Rattle.game.specs.Lines.{mostEntries}
-use Rattle.game.specs.Below.{allBelow}
+use Rattle.lines.specs.Lines.{mostEntries}
+use Rattle.lines.specs.Below.{allBelow}
 use Rattle.fit_arrays.specs.Arrays.{entryFits, lineFits}
-use Rattle.game.proofs.Below.{all-fails, all-next, all-ends}
+use Rattle.lines.proofs.Below.{all-fails, all-next, all-ends}
 use Rattle.fit_arrays.proofs.line_fits.Statement.{statement}
 use Rattle.fit_arrays.proofs.line_fits.Tie as tie
 

@@ -2,7 +2,7 @@
 -- The measure is what is left of them.
 use Prim.Native.Nat.{_≤_, _-_}
 use borrow.Author.Needs.{needs}
-use Rattle.game.specs.Lines.{mostEntries}
+use Rattle.lines.specs.Lines.{mostEntries}
 use Rattle.game_vectors.proofs.printing.print_line.Statement.{statement}
 use Rattle.game_vectors.proofs.printing.print_line.Tie as tie
 

@@ -7,7 +7,7 @@ use native.Mathlib.Omega.{arith}
 use native.Mathlib.Decide.{ℕ-discrete}
 use native.Mathlib.Numerals.{add-one}
 use Rattle.numbers.proofs.Tests.{clash, and-both, both-true, by-flag}
-use Rattle.game.specs.Below.{allBelow, anyBelow}
+use Rattle.lines.specs.Below.{allBelow, anyBelow}
 
 module _ (test : ℕ → Bool) where
   pub all-holds : (n : ℕ) → allBelow n test ≡ true → (i : ℕ) → i < n → test i ≡ true

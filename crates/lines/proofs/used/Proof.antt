@@ -1,8 +1,8 @@
--- `game::lines::used` meets its contract: the code's test is the contract's.
+-- `lines::used` meets its contract: the code's test is the contract's.
 use borrow.Author.Needs.{needs}
 use borrow.Author.Tests.{lt-ltb, le-ltb}
-use Rattle.game.proofs.lines.used.Statement.{statement}
-use Rattle.game.proofs.lines.used.Tie as tie
+use Rattle.lines.proofs.used.Statement.{statement}
+use Rattle.lines.proofs.used.Tie as tie
 
 returns : tie.Need-returns
 returns c = (rw (lt-ltb _ _ (c .if1 .taken)), search needs)

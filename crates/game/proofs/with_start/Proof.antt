@@ -1,9 +1,9 @@
--- `game::lines::with_start` meets its contract: the code's two tests, one after the other, are the contract's.
+-- `game::with_start` meets its contract: the code's two tests, one after the other, are the contract's.
 use borrow.Author.Needs.{needs}
 use borrow.Author.Tests.{eq-eqb, ne-eqb}
 use Rattle.game.specs.Game.{withStart}
-use Rattle.game.proofs.lines.with_start.Statement.{statement}
-use Rattle.game.proofs.lines.with_start.Tie as tie
+use Rattle.game.proofs.with_start.Statement.{statement}
+use Rattle.game.proofs.with_start.Tie as tie
 
 returns : tie.Need-returns
 unfolding withStart

@@ -1,16 +1,16 @@
--- `game::lines::is_in` meets its contract. The invariant: none of the entries before `at` is the routine.
+-- `lines::is_in` meets its contract. The invariant: none of the entries before `at` is the routine.
 use Prim.Native.Nat.{ℕ, _-_, _<_, _≤_}
 use mathlib.Core.Path.{_≡_, refl}
 use mathlib.Core.Bool.{Bool, true, false}
 use lib.Dec.{eqb}
 use borrow.Author.Needs.{needs}
 use borrow.Author.Tests.{eq-eqb, ne-eqb}
-use Rattle.game.specs.declared.Line.{Line}
-use Rattle.game.specs.Below.{anyBelow}
-use Rattle.game.specs.Lines.{itemAt, usedOf, isIn}
-use Rattle.game.proofs.Below.{any-holds, any-next, any-ends}
-use Rattle.game.proofs.lines.is_in.Statement.{statement}
-use Rattle.game.proofs.lines.is_in.Tie as tie
+use Rattle.lines.specs.declared.Line.{Line}
+use Rattle.lines.specs.Below.{anyBelow}
+use Rattle.lines.specs.Lines.{itemAt, usedOf, isIn}
+use Rattle.lines.proofs.Below.{any-holds, any-next, any-ends}
+use Rattle.lines.proofs.is_in.Statement.{statement}
+use Rattle.lines.proofs.is_in.Tie as tie
 
 -- entry i is routine r
 abbrev is-at : Line → ℕ → ℕ → Bool

@@ -1,11 +1,16 @@
-// Lists of routines.
-use crate::Line;
-use crate::MOST_ENTRIES;
-use crate::NOT_STARTED;
+// Lists of routines: the playing order, and those to start. Document 01, "The game".
 ghost use mathlib.Core.Path.{_≡_};
 ghost use Prim.Native.Nat.{_≤_};
-ghost use Rattle.game.specs.Lines.{mostEntries, usedOf, isIn, pushed};
-ghost use Rattle.game.specs.Game.{withStart};
+ghost use Rattle.lines.specs.Lines.{mostEntries, usedOf, isIn, pushed};
+
+// How many entries a list has room for.
+pub const MOST_ENTRIES: usize = 64;
+
+// A list of routines: its first `len` entries.
+pub struct Line {
+    pub items: [u8; MOST_ENTRIES],
+    pub len: usize,
+}
 
 // How many entries of a list count: as many as its length says, and no more than there are.
 pub fn used(line: Line) -> usize
@@ -46,17 +51,4 @@ pub fn push(line: Line, routine: u8) -> Line
         return next;
     }
     line
-}
-
-// Those to start, after a start of a routine, which is in this stage: one that is not in stage 0, or is already to start, adds nothing.
-pub fn with_start(line: Line, routine: u8, stage: u8) -> Line
-    ensures { λ r. ⌜ r ≡ withStart line routine stage ⌝ }
-{
-    if stage != NOT_STARTED {
-        return line;
-    }
-    if is_in(line, routine) {
-        return line;
-    }
-    push(line, routine)
 }
