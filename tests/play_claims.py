@@ -254,8 +254,8 @@ use Rattle.lines.specs.declared.Line.{Line}
 use Rattle.game.specs.declared.Game.{Game}
 use Rattle.lines.specs.Lines.{entriesOf, isIn, appended}
 use Rattle.game.specs.Game.{blankGame, routineAt, isBroadcast, withCounter}
-use Rattle.orders.specs.declared.Outcome.{Outcome}
-use Rattle.orders.specs.SetUp.{unlessRefused, newGame, setUp}
+use Rattle.setup.specs.declared.Outcome.{Outcome}
+use Rattle.setup.specs.SetUp.{unlessRefused, newGame, setUp}
 use Rattle.orders.specs.Orders.{fitVerdict, numberVerdict, orderVerdict, obeyed, ordered}
 use Rattle.round.specs.declared.Ending.the-variants.{Ended, Rested, Missed, Continued}
 use Rattle.round.specs.Actions.{atStart}
@@ -518,7 +518,6 @@ use Rattle.game.specs.Game.{blankGame, withStart}
 use Rattle.fit_arrays.specs.Arrays.{entryFits, lineFits, countersFit, signalsFit}
 use Rattle.fit_routines.specs.Routines.{routineFits, slotFits}
 use Rattle.fitting.specs.Fitting.{fitsBook}
-use Rattle.orders.specs.SetUp.{newGame}
 use Rattle.orders.specs.Orders.{obeyed}
 use Rattle.round.specs.State.{numbersWith, isEndThere, isThere}
 use Rattle.round.specs.Actions.{kept, each, atStart}

@@ -47,7 +47,7 @@ fn show(text: &[u8], book: &[u8]) {
 }
 
 fn set_up(book: &[u8], game: Game) -> Game {
-    let outcome = orders::set_up(book, game);
+    let outcome = setup::set_up(book, game);
     print_verdict(b"setup", outcome.verdict);
     outcome.game
 }

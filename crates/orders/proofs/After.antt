@@ -10,11 +10,11 @@ use Rattle.game.specs.declared.Game.{Game}
 use Rattle.game.specs.Game.{Sized}
 use Rattle.fitting.specs.Fitting.{fitsBook}
 use Rattle.fitting.proofs.Decides.{fits-decides}
-use Rattle.orders.specs.declared.Outcome.{Outcome}
-use Rattle.orders.specs.SetUp.{GivesFitting}
+use Rattle.setup.specs.declared.Outcome.{Outcome}
+use Rattle.setup.specs.SetUp.{GivesFitting}
 use Rattle.orders.specs.Orders.{orderVerdict, obeyed, ordered}
 use Rattle.orders.specs.Tells.{OrderTells}
-use Rattle.orders.proofs.Games.{game-lent, game-either}
+use Rattle.setup.proofs.Games.{game-lent, game-either}
 use Rattle.orders.proofs.Obeyed.{obeyed-fits, obeyed-sized, obeyed-again}
 use Rattle.orders.proofs.Telling.{Right, told-right, order-told-only, order-tells}
 

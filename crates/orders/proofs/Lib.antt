@@ -3,10 +3,8 @@ pub mod After
 pub mod Apart
 pub mod Changed
 pub mod Counts
-pub mod Games
 pub mod Joins
 pub mod Obeyed
-pub mod SetUp
 pub mod Starts
 pub mod Stores
 pub mod Telling

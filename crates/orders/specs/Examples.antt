@@ -20,7 +20,7 @@ use Rattle.game.specs.Game.{continuing, ended, withRoutine, withStart}
 use Rattle.fit_arrays.specs.Arrays.{entryFits, lineFits, countersFit, signalsFit}
 use Rattle.fit_routines.specs.Routines.{routineFits, slotFits}
 use Rattle.fitting.specs.Fitting.{fitsBook}
-use Rattle.orders.specs.SetUp.{newGame}
+use Rattle.setup.specs.SetUp.{newGame}
 use Rattle.orders.specs.Orders.{orderVerdict, obeyed, ordered}
 
 -- a routine at its first step, with nothing begun and nothing asked

@@ -1,4 +1,3 @@
-pub mod SetUp
 pub mod Orders
 pub mod Tells
 pub mod Joined

@@ -12,8 +12,8 @@ use Rattle.book.specs.Book.{bookVerdict}
 use Rattle.game.specs.declared.Game.{Game}
 use Rattle.game.specs.Game.{routineAt, withStop, withSuspend, withResume, withStart, withStarting, withBroadcast, withRoutine}
 use Rattle.fitting.specs.Fitting.{fitsBook}
-use Rattle.orders.specs.declared.Outcome.{Outcome}
-use Rattle.orders.specs.SetUp.{unlessRefused}
+use Rattle.setup.specs.declared.Outcome.{Outcome}
+use Rattle.setup.specs.SetUp.{unlessRefused}
 
 -- how many numbers an order of each kind may name: signals for kind 0, routines for 1 to 4; an unknown kind has none
 abbrev pub orderCount : Counts → ℕ → ℕ

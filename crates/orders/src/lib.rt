@@ -1,26 +1,20 @@
-// Setting up a game, and outside orders. Document 01, "The game".
+// Outside orders. Document 01, "The game".
 use book::read_book;
 use fitting::fits;
 use game::Game;
-use game::blank_routine;
 use game::with_resume;
 use game::with_start;
 use game::with_stop;
 use game::with_suspend;
 use kinds::Counts;
-use layout::MOST_COUNTERS;
-use layout::MOST_ROUTINES;
-use layout::MOST_SIGNALS;
 use layout::counts_of;
-use lines::Line;
-use lines::MOST_ENTRIES;
-use lines::push;
+use setup::Outcome;
 use verdicts::Verdict;
 use verdicts::verdict_of;
 ghost use mathlib.Core.Path.{_≡_};
 ghost use Prim.Native.Nat.{_<_};
 ghost use Rattle.verdicts.specs.Verdicts.{refused};
-ghost use Rattle.orders.specs.SetUp.{newGame, setUp, GivesFitting};
+ghost use Rattle.setup.specs.SetUp.{GivesFitting};
 ghost use Rattle.orders.specs.Orders.{orderCount, mostCounts, orderVerdict, obeyed, ordered};
 
 // The kinds of an order.
@@ -38,50 +32,6 @@ pub const RESUME: u32 = 4;
 const UNFIT: u32 = 9;
 
 const WRONG_ORDER: u32 = 8;
-
-// What set-up and an order answer: the verdict, and the game, which is as lent after a refusal.
-pub struct Outcome {
-    pub verdict: Verdict,
-    pub game: Game,
-}
-
-// A game as set up for these numbers. The lent game's routines are overwritten one by one: an array of so many at once would be copied.
-fn new_game(counts: Counts, game: Game) -> Game
-    ensures { λ r. ⌜ r ≡ newGame counts ⌝ }
-{
-    let mut next = game;
-    let mut routine: usize = 0;
-    while routine < MOST_ROUTINES {
-        next.routines[routine] = blank_routine();
-        routine += 1;
-    }
-    let items = [0; MOST_ENTRIES];
-    let counters = [0; MOST_COUNTERS];
-    let broadcast = [false; MOST_SIGNALS];
-    let listed = Line { items, len: 0 };
-    let starting = push(listed, 0);
-    next.counts = counts;
-    next.counters = counters;
-    next.listed = listed;
-    next.starting = starting;
-    next.broadcast = broadcast;
-    next
-}
-
-// Replaces a lent game by the one that a play of the book begins with. Checks 1 to 7; a refusal hands the game back as lent.
-pub fn set_up(book: &[u8], game: Game) -> Outcome
-    ensures { λ r. ⌜ (r ≡ setUp (now (book .entry)) game) × GivesFitting (now (book .entry)) r ⌝ }
-{
-    let verdict = verdict_of(read_book(book));
-    if verdict.number == 0 {
-        let next = new_game(counts_of(book), game);
-        return Outcome {
-            verdict,
-            game: next,
-        };
-    }
-    Outcome { verdict, game }
-}
 
 // How many numbers an order of this kind may name.
 fn order_count(counts: Counts, kind: u32) -> usize

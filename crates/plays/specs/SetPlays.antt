@@ -21,7 +21,7 @@ use Rattle.game.specs.Game.{rested, stopped, blank, blankGame, withStart}
 use Rattle.fit_arrays.specs.Arrays.{entryFits, lineFits, countersFit, signalsFit}
 use Rattle.fit_routines.specs.Routines.{routineFits, slotFits}
 use Rattle.fitting.specs.Fitting.{fitsBook}
-use Rattle.orders.specs.SetUp.{newGame, setUp}
+use Rattle.setup.specs.SetUp.{newGame, setUp}
 use Rattle.round.specs.State.{numbersWith, isEndThere, isThere}
 use Rattle.round.specs.History.{countBelow}
 use Rattle.round.specs.Actions.{kept, each, placed, atStart}

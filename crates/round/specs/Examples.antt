@@ -20,7 +20,7 @@ use Rattle.game.specs.Game.{routineAt, blankGame, withStart}
 use Rattle.fit_arrays.specs.Arrays.{entryFits, lineFits, countersFit, signalsFit}
 use Rattle.fit_routines.specs.Routines.{routineFits, slotFits}
 use Rattle.fitting.specs.Fitting.{fitsBook}
-use Rattle.orders.specs.SetUp.{newGame}
+use Rattle.setup.specs.SetUp.{newGame}
 use Rattle.round.specs.declared.Ending.the-variants.{Ended, Continued}
 use Rattle.round.specs.State.{signal, Happening, gave, ended, missing, past, marked, completed, numbersWith, isEndThere, isThere}
 use Rattle.round.specs.History.{countBelow}

@@ -6,7 +6,7 @@ use borrow.Author.Needs.{needs}
 use borrow.Author.Tests.{eq-eqb, ne-eqb}
 use Rattle.game.specs.Game.{Sized}
 use Rattle.orders.specs.Orders.{ordered}
-use Rattle.orders.proofs.Games.{promised, length-mapped}
+use Rattle.setup.proofs.Games.{promised, length-mapped}
 use Rattle.orders.proofs.After.{order-fits}
 use Rattle.orders.proofs.Counts.{nameable}
 use Rattle.orders.proofs.order.Statement.{statement}

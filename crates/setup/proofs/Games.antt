@@ -9,8 +9,8 @@ use borrow.Author.Tests.{eqb-true, ne-eqb}
 use Rattle.numbers.proofs.Tests.{by-test}
 use Rattle.verdicts.specs.declared.Verdict.{Verdict}
 use Rattle.game.specs.declared.Game.{Game}
-use Rattle.orders.specs.declared.Outcome.{Outcome}
-use Rattle.orders.specs.SetUp.{unlessRefused, GivesFitting}
+use Rattle.setup.specs.declared.Outcome.{Outcome}
+use Rattle.setup.specs.SetUp.{unlessRefused, GivesFitting}
 
 module _ (v : Verdict) (given lent : Game) where
   pub game-lent : (v .number ≡ 0 → ⊥) → unlessRefused v given lent .game ≡ lent

@@ -1,14 +1,14 @@
--- `orders::set_up` meets its contract: the verdict is the book's, and decides between the new game and the lent one as the contract does.
+-- `setup::set_up` meets its contract: the verdict is the book's, and decides between the new game and the lent one as the contract does.
 -- The new game fits an accepted book.
 use mathlib.Core.Path.{_≡_, _∙_}
 use borrow.Author.Needs.{needs}
 use borrow.Author.Tests.{eq-eqb, ne-eqb}
 use Rattle.book.specs.Book.{bookVerdict}
-use Rattle.orders.specs.SetUp.{setUp}
-use Rattle.orders.proofs.Games.{promised}
-use Rattle.orders.proofs.SetUp.{set-up-fits}
-use Rattle.orders.proofs.set_up.Statement.{statement}
-use Rattle.orders.proofs.set_up.Tie as tie
+use Rattle.setup.specs.SetUp.{setUp}
+use Rattle.setup.proofs.Games.{promised}
+use Rattle.setup.proofs.SetUp.{set-up-fits}
+use Rattle.setup.proofs.set_up.Statement.{statement}
+use Rattle.setup.proofs.set_up.Tie as tie
 
 read : (c : tie.After-verdict-of) → c .verdict-of .result ≡ bookVerdict (c .before .before .before .args .book .now)
 read c = c .verdict-of .ensures ∙ c .before .read-book .ensures

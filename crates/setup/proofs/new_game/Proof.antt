@@ -1,4 +1,4 @@
--- `orders::new_game` meets its contract. The loop's invariant: there are as many routines as ever, and those passed are blank.
+-- `setup::new_game` meets its contract. The loop's invariant: there are as many routines as ever, and those passed are blank.
 -- So after the loop all are, and the other parts are the contract's own.
 use Prim.Native.Nat.{_-_, _≤_}
 use mathlib.Core.Path.{_≡_, refl, sym, _∙_}
@@ -9,10 +9,10 @@ use lib.ListN.{length, take, replicate, length-set, replicate-append-replicate}
 use lib.Seq.{take-suc-set, take-all}
 use Rattle.layout.specs.Layout.{mostRoutines}
 use Rattle.game.specs.Game.{blank}
-use Rattle.orders.specs.SetUp.{newGame}
-use Rattle.orders.proofs.Games.{length-mapped}
-use Rattle.orders.proofs.new_game.Statement.{statement}
-use Rattle.orders.proofs.new_game.Tie as tie
+use Rattle.setup.specs.SetUp.{newGame}
+use Rattle.setup.proofs.Games.{length-mapped}
+use Rattle.setup.proofs.new_game.Statement.{statement}
+use Rattle.setup.proofs.new_game.Tie as tie
 
 abbrev Inv-loop : tie.InvT-loop
 Inv-loop counts next₀ routine₀ next routine =

@@ -13,7 +13,7 @@ use Rattle.game.specs.declared.Game.{Game}
 use Rattle.lines.specs.Lines.{empty, pushed}
 use Rattle.game.specs.Game.{blankFor, withStarting}
 use Rattle.fitting.specs.Fits.{Fits}
-use Rattle.orders.specs.declared.Outcome.{Outcome}
+use Rattle.setup.specs.declared.Outcome.{Outcome}
 
 -- a verdict, with the game given where nothing is turned down; "After a refusal game and mark buffer are as lent"
 abbrev pub unlessRefused : Verdict → Game → Game → Outcome

@@ -19,8 +19,8 @@ use Rattle.game.specs.declared.Game.{Game}
 use Rattle.game.specs.Game.{notStarted, blank, routineAt, Sized}
 use Rattle.lines.specs.Lines.{mostEntries, empty, itemAt, pushed}
 use Rattle.fitting.specs.Fits.{Fits}
-use Rattle.orders.specs.SetUp.{GivesFitting, newGame, setUp}
-use Rattle.orders.proofs.Games.{game-either}
+use Rattle.setup.specs.SetUp.{GivesFitting, newGame, setUp}
+use Rattle.setup.proofs.Games.{game-either}
 
 -- each entry of a list that repeats one value is that value, past its end too
 all-same {ℓ} : {A : Type ℓ} (n i : ℕ) (a : A) → getD (replicate n a) i a ≡ a
