@@ -12,13 +12,13 @@ use lib.ListN.{length}
 use borrow.Author.Tests.{ltb-true}
 use Rattle.numbers.specs.Choice.{if_then_else_}
 use Rattle.numbers.proofs.Tests.{clash, first-or-second, by-test}
-use Rattle.kinds.specs.declared.Form.{Form}
-use Rattle.kinds.specs.declared.Form.the-variants.{Plain, Pausing, IfOpening, ElseMarker, WhileOpening, EndMarker}
+use Rattle.forms.specs.declared.Form.{Form}
+use Rattle.forms.specs.declared.Form.the-variants.{Plain, Pausing, IfOpening, ElseMarker, WhileOpening, EndMarker}
 use Rattle.blocks.specs.declared.Fault.{Fault}
 use Rattle.blocks.specs.declared.Fault.the-variants.{Unreadable, Misnested}
 use Rattle.blocks.specs.declared.Walk.{Walk}
 use Rattle.blocks.specs.declared.Walk.the-variants as walk
-use Rattle.kinds.specs.Forms.{isElse, isEnd}
+use Rattle.forms.specs.Forms.{isElse, isEnd}
 use Rattle.blocks.specs.Blocks.{View, beyond, unreadable, stands, elseAt, andThen, closed, deepest}
 use Rattle.blocks.specs.Blocks.{ifBy, whileBy, stepBy, blockStep, blockBy, stepOf, blockOf, routineOf}
 use Rattle.blocks.specs.Parse.{Open, openIf, openElse, openWhile, openingOf, Reached, Misplaced}

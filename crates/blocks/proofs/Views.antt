@@ -12,14 +12,14 @@ use Rattle.numbers.proofs.Tests.{by-test}
 use Rattle.kinds.specs.declared.Step.{Step}
 use Rattle.kinds.specs.declared.Step.the-variants as step
 use Rattle.kinds.specs.declared.Counts.{Counts}
-use Rattle.kinds.specs.declared.Form.{Form}
-use Rattle.kinds.specs.declared.Form.the-variants.{Plain, Pausing, IfOpening, ElseMarker, WhileOpening, EndMarker}
+use Rattle.forms.specs.declared.Form.{Form}
+use Rattle.forms.specs.declared.Form.the-variants.{Plain, Pausing, IfOpening, ElseMarker, WhileOpening, EndMarker}
 use Rattle.blocks.specs.declared.Fault.{Fault}
 use Rattle.blocks.specs.declared.Fault.the-variants.{Unreadable, Misnested}
 use Rattle.blocks.specs.declared.Walk.{Walk}
 use Rattle.blocks.specs.declared.Walk.the-variants as walk
 use Rattle.kinds.specs.Steps.{stepAt}
-use Rattle.kinds.specs.Forms.{isElse, isEnd}
+use Rattle.forms.specs.Forms.{isElse, isEnd}
 use Rattle.blocks.specs.Blocks.{View, beyond, unreadable, stands, viewAt, seen, elseAt, andThen, closed}
 
 pub stands-not-beyond : {x : View} {f : Form} → x ≡ stands f → x ≡ beyond → ⊥

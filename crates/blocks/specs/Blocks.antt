@@ -8,13 +8,13 @@ use Rattle.numbers.specs.Choice.{if_then_else_}
 use Rattle.kinds.specs.declared.Step.{Step}
 use Rattle.kinds.specs.declared.Step.the-variants as step
 use Rattle.kinds.specs.declared.Counts.{Counts}
-use Rattle.kinds.specs.declared.Form.{Form}
-use Rattle.kinds.specs.declared.Form.the-variants.{Plain, Pausing, IfOpening, ElseMarker, WhileOpening, EndMarker}
+use Rattle.forms.specs.declared.Form.{Form}
+use Rattle.forms.specs.declared.Form.the-variants.{Plain, Pausing, IfOpening, ElseMarker, WhileOpening, EndMarker}
 use Rattle.blocks.specs.declared.Fault.{Fault}
 use Rattle.blocks.specs.declared.Fault.the-variants.{Unreadable, Misnested}
 use Rattle.blocks.specs.declared.Walk.{Walk}
 use Rattle.blocks.specs.declared.Walk.the-variants as walk
-use Rattle.kinds.specs.Forms.{formOf, isElse, isEnd}
+use Rattle.forms.specs.Forms.{formOf, isElse, isEnd}
 use Rattle.kinds.specs.Steps.{stepAt}
 
 -- what stands at a place of a routine: a step, a step that is turned down, or nothing, behind the last step

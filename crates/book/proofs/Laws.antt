@@ -13,7 +13,7 @@ use borrow.Author.Tests.{lt-ltb, le-ltb}
 use lib.ListN.{length}
 use Rattle.kinds.specs.declared.Kind.{Kind}
 use Rattle.kinds.specs.declared.Step.the-variants as step
-use Rattle.kinds.specs.declared.Form.the-variants.{ElseMarker, EndMarker}
+use Rattle.forms.specs.declared.Form.the-variants.{ElseMarker, EndMarker}
 use Rattle.layout.specs.Layout.{routinesOf, stepsOf, countsOf}
 use Rattle.directory.specs.Directory.{firstStep, stepCount, routineFrom, routinePart, routineSteps}
 use Rattle.kinds.specs.Steps.{stepBytes, stepAt}

@@ -6,7 +6,7 @@ use lib.Dec.{leb, ltb, eqb}
 use lib.ListN.{getD}
 use Rattle.numbers.specs.Choice.{if_then_else_}
 use Rattle.kinds.specs.Steps.{stepAt}
-use Rattle.kinds.specs.Timed.{timedCount}
+use Rattle.forms.specs.Timed.{timedCount}
 use Rattle.layout.specs.Layout.{countsOf}
 use Rattle.directory.specs.Directory.{stepCount, routineSteps}
 use Rattle.game.specs.declared.Routine.{Routine}

@@ -1,6 +1,7 @@
 // Whether the routines of a game fit a book: a part of refusal 9. Document 01, "The game".
 use directory::routine_steps;
 use directory::step_count;
+use forms::timed_count;
 use game::CONTINUING;
 use game::ENDED;
 use game::Game;
@@ -9,7 +10,6 @@ use game::RESTED;
 use game::Routine;
 use game::STOPPED;
 use kinds::step_at;
-use kinds::timed_count;
 use layout::MOST_ROUTINES;
 use layout::counts_of;
 use lines::is_in;

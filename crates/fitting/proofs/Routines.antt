@@ -8,8 +8,8 @@ use mathlib.Core.Logic.{_↔_, _⊎_, inl, inr, ⊎-elim, Iff·rfl, Iff·trans}
 use native.Mathlib.Omega.{arith}
 use Rattle.numbers.proofs.Tests.{clash}
 use Rattle.kinds.specs.Steps.{stepAt}
-use Rattle.kinds.specs.Timed.{timedCount}
-use Rattle.kinds.proofs.Timed.{LeftOf, timed}
+use Rattle.forms.specs.Timed.{timedCount}
+use Rattle.forms.proofs.Timed.{LeftOf, timed}
 use Rattle.layout.specs.Layout.{countsOf}
 use Rattle.directory.specs.Directory.{stepCount, routineSteps}
 use Rattle.game.specs.declared.Routine.{Routine}

@@ -9,7 +9,7 @@ use lib.Signed.{_≤ℤ_}
 use Rattle.numbers.specs.Numbers.{lowestCounter, highestCounter}
 use Rattle.kinds.specs.declared.Step.{Step}
 use Rattle.kinds.specs.Steps.{stepAt}
-use Rattle.kinds.specs.Timed.{Timed}
+use Rattle.forms.specs.Timed.{Timed}
 use Rattle.layout.specs.Layout.{mostRoutines, mostSignals, mostCounters, routinesOf, signalsOf, countersOf, countsOf}
 use Rattle.directory.specs.Directory.{stepCount, routineSteps}
 use Rattle.lines.specs.declared.Line.{Line}

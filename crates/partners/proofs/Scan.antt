@@ -21,10 +21,10 @@ use Rattle.kinds.specs.declared.Step.{Step}
 use Rattle.kinds.specs.declared.Step.the-variants as step
 use Rattle.kinds.specs.declared.Counts.{Counts}
 use Rattle.kinds.specs.declared.Row.{Row}
-use Rattle.kinds.specs.declared.Form.{Form}
-use Rattle.kinds.specs.declared.Form.the-variants.{Plain, Pausing, IfOpening, ElseMarker, WhileOpening, EndMarker}
+use Rattle.forms.specs.declared.Form.{Form}
+use Rattle.forms.specs.declared.Form.the-variants.{Plain, Pausing, IfOpening, ElseMarker, WhileOpening, EndMarker}
 use Rattle.kinds.specs.Steps.{table, rowOf, opAt, fieldA, fieldB, fieldN, stepAt}
-use Rattle.kinds.specs.Forms.{formOf}
+use Rattle.forms.specs.Forms.{formOf}
 use Rattle.kinds.proofs.Readable.{rowAt, step-below, readable-step, step-readable}
 use Rattle.blocks.specs.Blocks.{View, stands, seen, viewAt}
 use Rattle.partners.specs.Partners.{partnerBy, partnerOf}

@@ -1,15 +1,15 @@
 // Reads blocks, and so decides nesting and pausing: block reader calls step reader and back.
 use blocks::Fault;
 use blocks::Walk;
+use forms::Form;
+use forms::form_of;
 use kinds::Counts;
-use kinds::Form;
 use kinds::Step;
-use kinds::form_of;
 use kinds::step_at;
 ghost use mathlib.Core.Path.{_≡_};
 ghost use Prim.Native.Nat.{_<_, _≤_, min};
 ghost use mathlib.Core.Bool.{_||_};
-ghost use Rattle.kinds.specs.Forms.{isElse, isEnd};
+ghost use Rattle.forms.specs.Forms.{isElse, isEnd};
 ghost use Rattle.blocks.specs.Blocks.{viewAt, closed, blockOf, stepOf, ifOf, elseOf, whileOf, routineOf};
 
 // How deep blocks may nest.

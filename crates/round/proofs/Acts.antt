@@ -13,7 +13,7 @@ use Rattle.numbers.specs.Numbers.{lowestCounter, highestCounter}
 use Rattle.kinds.specs.declared.Step.{Step}
 use Rattle.kinds.specs.declared.Counts.{Counts}
 use Rattle.kinds.specs.Steps.{opAt, stepAt}
-use Rattle.kinds.specs.Timed.{Timed}
+use Rattle.forms.specs.Timed.{Timed}
 use Rattle.game.specs.Game.{counterAt}
 use Rattle.round.specs.declared.Ending.{Ending}
 use Rattle.round.specs.declared.Ending.the-variants.{Ended, Rested, Missed, Continued}

@@ -9,7 +9,7 @@ use lib.Dec.{leb}
 use borrow.Author.Tests.{leb-true, le-leb, lt-leb}
 use Rattle.numbers.proofs.Tests.{and-both, both-true}
 use Rattle.kinds.specs.declared.Counts.{Counts}
-use Rattle.kinds.specs.declared.Form.the-variants.{Pausing}
+use Rattle.forms.specs.declared.Form.the-variants.{Pausing}
 use Rattle.blocks.specs.Blocks.{stands, deepest}
 use Rattle.blocks.specs.Parse.{ParsedBlock, WhilesPause}
 use Rattle.blocks.proofs.Views.{standing-below}

@@ -5,8 +5,8 @@ use mathlib.Core.Path.{_≡_, ap, subst}
 use mathlib.Core.List.{List, [], _∷_, _++_}
 use mathlib.Core.Logic.{_⊎_, inl, inr}
 use Rattle.kinds.specs.declared.Step.{Step}
-use Rattle.kinds.specs.Timed as timed
-use Rattle.kinds.specs.Timed.{Timed}
+use Rattle.forms.specs.Timed as timed
+use Rattle.forms.specs.Timed.{Timed}
 use Rattle.layout.specs.Layout.{countsOf}
 use Rattle.directory.specs.Directory.{routineSteps}
 use Rattle.game.specs.declared.Game.{Game}

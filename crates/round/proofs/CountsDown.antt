@@ -11,7 +11,7 @@ use native.Mathlib.Omega.{arith}
 use Rattle.kinds.specs.declared.Step.{Step}
 use Rattle.kinds.specs.declared.Counts.{Counts}
 use Rattle.kinds.specs.Steps.{stepAt}
-use Rattle.kinds.specs.Timed.{Timed, restFor, waitFor, joinFor}
+use Rattle.forms.specs.Timed.{Timed, restFor, waitFor, joinFor}
 use Rattle.layout.specs.Layout.{routinesOf, countsOf}
 use Rattle.directory.specs.Directory.{routineSteps}
 use Rattle.book.specs.Accepted.{Accepted}

@@ -12,8 +12,8 @@ use native.Mathlib.Omega.{arith}
 use Rattle.numbers.specs.Choice.{if_then_else_}
 use Rattle.numbers.proofs.Tests.{clash, and-both}
 use Rattle.kinds.specs.declared.Counts.{Counts}
-use Rattle.kinds.specs.declared.Form.{Form}
-use Rattle.kinds.specs.declared.Form.the-variants.{Plain, Pausing}
+use Rattle.forms.specs.declared.Form.{Form}
+use Rattle.forms.specs.declared.Form.the-variants.{Plain, Pausing}
 use Rattle.blocks.specs.Blocks.{View, stands, deepest}
 use Rattle.blocks.specs.Parse.{ParsedBlock, empty, more, ParsedStep, plain, pausing, ifOnly, ifElse, loop}
 use Rattle.blocks.specs.Parse.{blockPauses, stepPauses, EachWhileOf, WhilesPause}

@@ -15,10 +15,10 @@ use Rattle.numbers.specs.Choice.{if_then_else_}
 use Rattle.numbers.specs.Numbers.{countOf}
 use Rattle.kinds.specs.declared.Counts.{Counts}
 use Rattle.kinds.specs.declared.Row.{Row}
-use Rattle.kinds.specs.declared.Form.{Form}
-use Rattle.kinds.specs.declared.Form.the-variants.{Plain, Pausing, IfOpening, ElseMarker, WhileOpening, EndMarker}
+use Rattle.forms.specs.declared.Form.{Form}
+use Rattle.forms.specs.declared.Form.the-variants.{Plain, Pausing, IfOpening, ElseMarker, WhileOpening, EndMarker}
 use Rattle.kinds.specs.Steps.{table, opAt, fieldA, fieldB, fieldN}
-use Rattle.kinds.specs.Forms.{formOf}
+use Rattle.forms.specs.Forms.{formOf}
 use Rattle.blocks.specs.Blocks.{View, stands}
 use Rattle.partners.specs.Partners.{opWhile}
 use Rattle.blocks.specs.Parse.{ParsedBlock, empty, more, ParsedStep, plain, pausing, ifOnly, ifElse, loop}

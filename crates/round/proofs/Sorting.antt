@@ -21,10 +21,10 @@ use Rattle.kinds.specs.declared.Kind.the-variants as kind
 use Rattle.kinds.specs.declared.Step.{Step}
 use Rattle.kinds.specs.declared.Step.the-variants as step
 use Rattle.kinds.specs.declared.Counts.{Counts}
-use Rattle.kinds.specs.declared.Form.the-variants.{Plain, IfOpening, ElseMarker, WhileOpening, EndMarker}
+use Rattle.forms.specs.declared.Form.the-variants.{Plain, IfOpening, ElseMarker, WhileOpening, EndMarker}
 use Rattle.kinds.specs.Steps.{opAt, stepAt}
-use Rattle.kinds.specs.Forms.{formOf}
-use Rattle.kinds.specs.Timed as timed
+use Rattle.forms.specs.Forms.{formOf}
+use Rattle.forms.specs.Timed as timed
 use Rattle.kinds.proofs.Readable.{step-below}
 use Rattle.blocks.specs.Blocks.{View, stands, seen}
 use Rattle.blocks.proofs.Views.{view-seen}

@@ -11,7 +11,7 @@ use borrow.Author.Tests.{eq-eqb, ne-eqb}
 use lib.Dec.{eqb}
 use Rattle.numbers.specs.Choice.{if_then_else_}
 use Rattle.kinds.specs.declared.Step.{Step}
-use Rattle.kinds.specs.Timed.{Timed, restFor, waitFor, joinFor}
+use Rattle.forms.specs.Timed.{Timed, restFor, waitFor, joinFor}
 use Rattle.game.specs.Game.{rested}
 use Rattle.round.specs.declared.Ending.{Ending}
 use Rattle.round.specs.declared.Ending.the-variants.{Rested, Missed, Continued}

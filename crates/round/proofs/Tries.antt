@@ -12,8 +12,8 @@ use lib.Dec.{eqb}
 use Rattle.numbers.proofs.Tests.{by-test}
 use Rattle.kinds.specs.declared.Counts.{Counts}
 use Rattle.kinds.specs.Steps.{opAt, stepAt}
-use Rattle.kinds.specs.Timed.{Timed}
-use Rattle.kinds.proofs.Timed.{timed-count}
+use Rattle.forms.specs.Timed.{Timed}
+use Rattle.forms.proofs.Timed.{timed-count}
 use Rattle.round.specs.declared.Position.{Position}
 use Rattle.round.specs.declared.Effect.{Effect}
 use Rattle.round.specs.declared.Effect.the-variants.{Nothing}

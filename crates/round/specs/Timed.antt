@@ -6,7 +6,7 @@ use mathlib.Core.List.{List}
 use mathlib.Core.Logic.{_⊎_}
 use Rattle.kinds.specs.declared.Step.{Step}
 use Rattle.kinds.specs.Steps.{stepAt}
-use Rattle.kinds.specs.Timed.{Timed, restFor, waitFor, joinFor}
+use Rattle.forms.specs.Timed.{Timed, restFor, waitFor, joinFor}
 use Rattle.layout.specs.Layout.{countsOf}
 use Rattle.directory.specs.Directory.{routineSteps}
 use Rattle.game.specs.declared.Game.{Game}

@@ -13,7 +13,7 @@ use Rattle.numbers.specs.Choice.{if_then_else_}
 use Rattle.numbers.specs.Numbers.{sumOf, countOf}
 use Rattle.kinds.specs.declared.Step.{Step}
 use Rattle.kinds.specs.Steps.{opAt, fieldA, fieldB, fieldN, stepAt}
-use Rattle.kinds.specs.Timed.{Timed}
+use Rattle.forms.specs.Timed.{Timed}
 use Rattle.layout.specs.Layout.{countsOf}
 use Rattle.directory.specs.Directory.{routineSteps}
 use Rattle.game.specs.declared.Game.{Game}

@@ -18,10 +18,10 @@ use Rattle.kinds.specs.declared.Kind.{Kind}
 use Rattle.kinds.specs.declared.Kind.the-variants as kind
 use Rattle.kinds.specs.declared.Step.the-variants as step
 use Rattle.kinds.specs.declared.Counts.{Counts}
-use Rattle.kinds.specs.declared.Form.{Form}
-use Rattle.kinds.specs.declared.Form.the-variants.{Plain, Pausing}
+use Rattle.forms.specs.declared.Form.{Form}
+use Rattle.forms.specs.declared.Form.the-variants.{Plain, Pausing}
 use Rattle.kinds.specs.Steps.{stepAt}
-use Rattle.kinds.specs.Forms.{formOf}
+use Rattle.forms.specs.Forms.{formOf}
 use Rattle.game.specs.Game.{counterAt}
 use Rattle.blocks.specs.Blocks.{stands}
 use Rattle.round.specs.declared.Ending.{Ending}

@@ -5,7 +5,7 @@ use mathlib.Core.Path.{_≡_, refl, ap, _∙_}
 use native.Mathlib.Omega.{arith}
 use borrow.Author.Tests.{lt-ltb, le-ltb, eq-eqb, ne-eqb}
 use Rattle.kinds.specs.declared.Step.{Step}
-use Rattle.kinds.specs.declared.Form.the-variants.{IfOpening, ElseMarker, WhileOpening, EndMarker}
+use Rattle.forms.specs.declared.Form.the-variants.{IfOpening, ElseMarker, WhileOpening, EndMarker}
 use Rattle.blocks.specs.Blocks.{View, stands}
 use Rattle.blocks.specs.Parse.{ParsedBlock, empty, more, ParsedStep, plain, pausing, ifOnly, ifElse, loop}
 use Rattle.blocks.proofs.Parses.{block-goes, step-goes}

@@ -31,7 +31,7 @@ use Rattle.readers.proofs.read_while.Kinds as while-kinds
 use Rattle.readers.proofs.+read_block+read_else+read_if+read_step+read_while.Lts-read_while as while-lts
 use Rattle.readers.proofs.closed_at.Reads as closed-at
 use Rattle.readers.proofs.lower.Reads as lower
-use Rattle.kinds.proofs.form_of.Reads as form-of
+use Rattle.forms.proofs.form_of.Reads as form-of
 use Rattle.readers.proofs.is_else.Reads as is-else
 use Rattle.readers.proofs.is_marker.Reads as is-marker
 use Rattle.kinds.proofs.step_at.Reads as step-at

@@ -1,4 +1,4 @@
--- `kinds::timed_count` meets its contract. In each arm the kind is known, so that the contract's count computes;
+-- `forms::timed_count` meets its contract. In each arm the kind is known, so that the contract's count computes;
 -- for the kinds of the last arm it is 0.
 use Prim.Native.Nat.{ℕ}
 use mathlib.Core.Path.{_≡_, refl}
@@ -6,13 +6,13 @@ use mathlib.Core.List.{List, [], _∷_}
 use borrow.Author.Needs.{needs}
 use types.Run.{OneOf, miss}
 use denote.Enum.Declared.{tagOf}
 use Rattle.kinds.specs.declared.Kind.{Kind}
 use Rattle.kinds.specs.declared.Kind.the-variants.{Mark, Set, Add, Take, Signal, SignalNumber, Rest, RestFor, Wait, WaitFor}
 use Rattle.kinds.specs.declared.Kind.the-variants.{Join, JoinFor, Read, Start, Stop, Suspend, Resume, If, Else, While, End}
 use Rattle.kinds.proofs.Kind.{the-type}
-use Rattle.kinds.specs.Timed.{kindCount}
-use Rattle.kinds.proofs.timed_count.Statement.{statement}
-use Rattle.kinds.proofs.timed_count.Tie as tie
+use Rattle.forms.specs.Timed.{kindCount}
+use Rattle.forms.proofs.timed_count.Statement.{statement}
+use Rattle.forms.proofs.timed_count.Tie as tie
 
 -- the variants but the three timed ones
 abbrev untimed : List ℕ

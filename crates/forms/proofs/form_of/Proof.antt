@@ -1,9 +1,9 @@
--- `kinds::form_of` meets its contract. In each arm the kind is known, so that the contract's form computes;
+-- `forms::form_of` meets its contract. In each arm the kind is known, so that the contract's form computes;
 -- at a rest for n the code's test of n is the contract's.
 use borrow.Author.Needs.{needs}
 use borrow.Author.Tests.{ne-eqb}
-use Rattle.kinds.proofs.form_of.Statement.{statement}
-use Rattle.kinds.proofs.form_of.Tie as tie
+use Rattle.forms.proofs.form_of.Statement.{statement}
+use Rattle.forms.proofs.form_of.Tie as tie
 
 -- first that each arm's variant is known, and then what each arm gives
 pub form-of-spec : {M : Type 1} → statement M

@@ -4,11 +4,11 @@ use Prim.Native.Nat.{ℕ, _<_}
 use mathlib.Core.Path.{_≡_, refl}
 use mathlib.Core.Logic.{_↔_}
 use native.Mathlib.Omega.{arith}
 use Rattle.kinds.specs.declared.Kind.the-variants.{Mark, Set, Add, Take, Signal, SignalNumber, Rest, RestFor, Wait, WaitFor}
 use Rattle.kinds.specs.declared.Kind.the-variants.{Join, JoinFor, Read, Start, Stop, Suspend, Resume, If, Else, While, End}
 use Rattle.kinds.specs.declared.Step.{Step}
 use Rattle.kinds.specs.declared.Step.the-variants as step
-use Rattle.kinds.specs.Timed.{Timed, restFor, waitFor, joinFor, timedCount}
+use Rattle.forms.specs.Timed.{Timed, restFor, waitFor, joinFor, timedCount}
 
 -- a timed step, and a count left below its n
 abbrev pub LeftOf : Step → ℕ → Type 0

@@ -2,12 +2,12 @@
 use mathlib.Core.Bool.{Bool, true, false}
 use lib.Dec.{eqb}
 use Rattle.numbers.specs.Choice.{if_then_else_}
 use Rattle.kinds.specs.declared.Kind.{Kind}
 use Rattle.kinds.specs.declared.Kind.the-variants.{Mark, Set, Add, Take, Signal, SignalNumber, Rest, RestFor, Wait, WaitFor}
 use Rattle.kinds.specs.declared.Kind.the-variants.{Join, JoinFor, Read}
 use Rattle.kinds.specs.declared.Kind.the-variants.{Start, Stop, Suspend, Resume, If, Else, While, End}
-use Rattle.kinds.specs.declared.Form.{Form}
-use Rattle.kinds.specs.declared.Form.the-variants.{Plain, Pausing, IfOpening, ElseMarker, WhileOpening, EndMarker}
+use Rattle.forms.specs.declared.Form.{Form}
+use Rattle.forms.specs.declared.Form.the-variants.{Plain, Pausing, IfOpening, ElseMarker, WhileOpening, EndMarker}
 
 -- What a step is to the blocks around it. "Op 6 pauses; op 7 does if n is at least 1;"
 abbrev pub formOf : Kind → Form
