@@ -92,12 +92,16 @@ fn check_lines(text: &[u8]) {
     print_counts(books, differ);
 }
 
-fn main() {
-    let mut buffer = [0u8; INPUT];
-    let n = io::read_full(0, &mut buffer);
+fn run(buffer: &mut [u8; INPUT]) {
+    let n = io::read_full(0, buffer);
     if n == INPUT {
         io::write_all(1, b"input too long\n");
         return;
     }
-    check_lines(&buffer[..n]);
+    check_lines(part(buffer, n));
+}
+
+fn main() {
+    let mut buffer = [0u8; INPUT];
+    run(&mut buffer);
 }
