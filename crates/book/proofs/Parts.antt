@@ -10,7 +10,7 @@ use lib.ListN.{length, getD, take, drop, length-take, length-drop}
 use lib.Seq.{getD-take, getD-drop, drop-drop, length-take-le}
 use Rattle.kinds.specs.declared.Counts.{Counts}
 use Rattle.layout.specs.Layout.{stepsOf, stepsFrom}
-use Rattle.directory.specs.Directory.{firstStep, stepCount, routineFrom, routinePart, routineSteps}
+use Rattle.directory.specs.Directory.{firstStep, stepCount, routinePart, routineSteps}
 use Rattle.kinds.specs.Steps.{stepBytes, decoded, opAt, fieldA, fieldB, fieldN, stepAt}
 use Rattle.book.specs.Book.{stepsPart}
 use Rattle.kinds.proofs.Readable.{step-there, step-missing}

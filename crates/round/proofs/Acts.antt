@@ -1,5 +1,5 @@
 -- The 21 kinds sorted by what a step comes to: it goes on, with an effect and what it tells of it, or it halts the turn, for one of four
--- reasons. All laws of turns speak of these.
+-- reasons. Nearly all laws of turns speak of these.
 use Prim.Native.Nat.{ℕ, _+_, _<_, _≤_}
 use mathlib.Core.Path.{_≡_}
 use mathlib.Core.Bool.{Bool, true, false, _||_}
@@ -28,20 +28,20 @@ use Rattle.round.specs.Ticks.{Tick, countAt}
 use Rattle.round.specs.Answers.{opMark}
 use Rattle.round.specs.Demand.{isSignalOp, AsksFor, wait, waitFor, join, joinFor, read}
 use Rattle.round.proofs.Leads.{Leaves}
+use Rattle.round.proofs.Along.{All}
 
 -- "A counter .. holds −1,000,000 to 1,000,000."
 abbrev pub InRange : ℤ → Type 0
 InRange v = (lowestCounter ≤ℤ v) × (v ≤ℤ highestCounter)
 
--- P holds of each number given
-abbrev pub EachNumber : (ℤ → Type 0) → List (ℕ × ℤ) → Type 0
-EachNumber P [] = Unit {0}
-EachNumber P (x ∷ xs) = P (x .1) × EachNumber P xs
+-- each number given is in range, whatever signal it was given with
+abbrev pub NumbersRight : List (ℕ × ℤ) → Type 0
+NumbersRight = All (λ x. InRange (x .1))
 
 -- every counter and every number given is in range
 pub record Ranged (s : State) : Type 0 where
   pub counters : (c : ℕ) → InRange (counterAt (s .game) c)
-  pub numbers : EachNumber InRange (s .numbers)
+  pub numbers : NumbersRight (s .numbers)
 
 -- an effect on what the book has, which keeps counters and numbers in range
 pub data Right (counts : Counts) (s : State) : Effect → Type 0 where

@@ -17,6 +17,10 @@ abbrev pub All : {A : Type 0} → (A → Type 0) → List A → Type 0
 All P [] = Unit {0}
 All P (x ∷ xs) = P x × All P xs
 
+pub all-append : {A : Type 0} (P : A → Type 0) (xs ys : List A) → All P xs → All P ys → All P (xs ++ ys)
+all-append P [] ys h k = k
+all-append P (x ∷ xs) ys h k = (h .0, all-append P xs ys (h .1) k)
+
 pub among-all : (P : ℕ → Type 0) (r : ℕ) (rs : List ℕ) → All P rs → Among r rs → P r
 among-all P r [] a h = absurd h
 among-all P r (q ∷ qs) a (inl e) = rw e (a .0)

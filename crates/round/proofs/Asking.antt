@@ -1,4 +1,5 @@
--- What a step that asks for a thing comes to: past it where the thing is there, and otherwise the turn's end. By cases on the step.
+-- What a step that asks for a thing comes to: past it where the thing is there, and otherwise the turn's end; so where the turn goes on,
+-- the thing was found. By cases on the step.
 use Prim.Native.Nat.{ℕ, _+_, _-_, _<_}
 use mathlib.Core.Path.{_≡_, refl, sym, ap, _∙_}
 use mathlib.Core.Bool.{Bool, true, false}

@@ -14,8 +14,8 @@ use Rattle.book.specs.Accepted.{Accepted}
 use Rattle.book.proofs.Parts.{same-taken, same-routine}
 use Rattle.round.specs.History.{countBelow, stepsIn}
 use Rattle.round.proofs.Along.{All, Distinct}
-use Rattle.round.proofs.Counting.{sumOver, count-all, count-same, count-sum}
-use Rattle.round.proofs.Sums.{sumBelow, over-below, below-le}
+use Rattle.round.proofs.Counting.{count-all, count-same, count-sum}
+use Rattle.round.proofs.Sums.{sumOver, sumBelow, over-below, below-le}
 
 -- a step of a routine is the step at its place in the book
 routine-op :

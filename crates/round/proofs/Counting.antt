@@ -1,10 +1,8 @@
 -- Laws of counting the places that pass a test: fewer places pass a stricter test, and one place fewer where a place drops out; counts of
--- places one after another add up; and what such a count counts. By induction on how many places are looked at. Beside the counts stands
--- what a sum over some numbers is.
+-- places one after another add up; and what such a count counts. By induction on how many places are looked at.
 use Prim.Native.Nat.{ℕ, zero, suc, _+_, _<_, _≤_}
 use mathlib.Core.Path.{_≡_, refl}
 use mathlib.Core.Bool.{Bool, true, false}
-use mathlib.Core.List.{List, [], _∷_}
 use mathlib.Core.Logic.{_↔_}
 use native.Mathlib.Decide.{ℕ-discrete}
 use native.Mathlib.Nat.{add-zero, add-suc}
@@ -13,11 +11,6 @@ use native.Mathlib.Omega.{arith}
 use Rattle.numbers.specs.Choice.{if_then_else_}
 use Rattle.numbers.proofs.Tests.{clash}
 use Rattle.round.specs.History.{countBelow}
-
--- a sum over some numbers, whose laws stand in Sums.antt
-unfoldable pub sumOver : (ℕ → ℕ) → List ℕ → ℕ
-sumOver f [] = 0
-sumOver f (r ∷ rs) = f r + sumOver f rs
 
 -- what one place counts
 abbrev pub one : Bool → ℕ

@@ -3,7 +3,7 @@
 -- is listed in a game that fits.
 use Prim.Native.Nat.{ℕ, _<_, _≤_}
 use mathlib.Core.Path.{_≡_, refl, _∙_, subst}
-use mathlib.Core.Bool.{false, true≢false}
+use mathlib.Core.Bool.{false}
 use mathlib.Core.List.{List}
 use mathlib.Core.Logic.{_⊎_, inl, inr}
 use native.Mathlib.Decide.{ℕ-discrete}
@@ -11,6 +11,7 @@ use native.Mathlib.Omega.{arith}
 use borrow.Author.Tests.{le-ltb, eq-eqb}
 use lib.ListN.{length}
 use lib.IntN.{ℤ}
+use Rattle.numbers.proofs.Tests.{clash}
 use Rattle.verdicts.specs.Verdicts.{accepted}
 use Rattle.layout.specs.Layout.{routinesOf}
 use Rattle.book.specs.Accepted.{Accepted}
@@ -27,8 +28,7 @@ use Rattle.round.specs.Demand.{Demand3}
 use Rattle.round.proofs.Given.{too-many}
 use Rattle.round.proofs.Telling.{round-told-only, answer-verdict, accepted-played}
 use Rattle.round.proofs.Sound.{Sound}
-use Rattle.round.proofs.Actions.{at-start-listed}
-use Rattle.round.proofs.Starting.{at-start-sound, among-listed}
+use Rattle.round.proofs.Starting.{listed-below, at-start-sound, among-listed}
 use Rattle.round.proofs.Passes.{FairRound, fair-round}
 use Rattle.round.proofs.Lawful.{turn-laws}
 use Rattle.round.proofs.Enough.{enough}
@@ -54,7 +54,7 @@ module _ (book : List ℕ) (a : Accepted book) (g : Game) (z : Sized g) (f : Fit
   fair : FairRound (listedIn g) (round book g)
   unfolding round atStart
   fair =
-      fair-round (turn-laws book a) (listedIn g) (at-start-listed book g (a .laid .counts) z f) mostPasses (atStart g) start-sound refl refl
+      fair-round (turn-laws book a) (listedIn g) (listed-below book g a z f) mostPasses (atStart g) start-sound refl refl
       (enough book a g z f .passes)
 
   -- no more numbers are given than are kept, so every one that is told is there
@@ -64,7 +64,7 @@ module _ (book : List ℕ) (a : Accepted book) (g : Game) (z : Sized g) (f : Fit
   rested-or-ended :
       (r : ℕ) → Among r (listedIn g) → routineAt (atStart g .game) r .suspended ≡ false →
       (routineAt (last .game) r .stage ≡ rested) ⊎ (routineAt (last .game) r .stage ≡ ended)
-  rested-or-ended r i awake =
+  rested-or-ended r i unsuspended =
       let (sound, kept) = round-keeps book a g z f in
       let fits = sound .fits in
       let (k, l, e) = among-listed book g a z f r i in
@@ -72,7 +72,7 @@ module _ (book : List ℕ) (a : Accepted book) (g : Game) (z : Sized g) (f : Fit
       let here : In (last .game .listed) r = rw (kept .listed) (k, l, e) in
       let off = fair .noneGoing r i in
       rests-or-ends (routineAt (last .game) r .stage) (fits .stagesInRange r lower)
-      (λ on. true≢false (rw (kept .suspended r ∙ awake, eq-eqb _ _ on) at off))
+      (λ on. clash refl (rw (kept .suspended r ∙ unsuspended, eq-eqb _ _ on) at off))
       (λ out. fits .unlistedStages r lower out here)
 
   pub demand-3 : Demand3 book g (round book g .passes) (last .game)

@@ -28,8 +28,8 @@ use Rattle.round.specs.Actions.{kept, atStart}
 use Rattle.round.specs.Rounds.{stageAfter, listedIn, ticksOf, turn, historyOf}
 use Rattle.round.specs.Demand.{endsRoutine}
 use Rattle.round.proofs.Acts.{Stops, ends, rests, misses, continues}
-use Rattle.round.proofs.Counting.{sumOver, one}
-use Rattle.round.proofs.Sums.{own-sum, none-sum, alone-sum, kept-sum}
+use Rattle.round.proofs.Counting.{one}
+use Rattle.round.proofs.Sums.{sumOver, own-sum, none-sum, alone-sum, kept-sum}
 use Rattle.round.proofs.Histories.{none-of-all, many-append, none-told}
 use Rattle.round.proofs.Along.{Distinct}
 use Rattle.round.proofs.After.{back, round-along}

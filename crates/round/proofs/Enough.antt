@@ -1,6 +1,6 @@
 -- The steps that a turn may take and the passes that a round may take are enough, so that more would change nothing. A pass that sets the
 -- flag gives a signal or ends a routine, so it pays from what is left of the listed routines' signal steps and of the routines themselves;
--- at the start that is at most 1,024 and 64.
+-- at the start that is at most the most steps and the most routines.
 use Prim.Native.Nat.{ℕ, zero, suc, _+_, _<_, _≤_}
 use mathlib.Core.Path.{_≡_, refl}
 use mathlib.Core.Bool.{Bool}
@@ -30,10 +30,9 @@ use Rattle.round.specs.Demand.{isSignalStep, givesSignal, endsRoutine}
 use Rattle.round.proofs.Along.{All}
 use Rattle.round.proofs.Sound.{Sound}
 use Rattle.round.proofs.TurnLaws.{isGoing, moves}
-use Rattle.round.proofs.Counting.{sumOver}
+use Rattle.round.proofs.Sums.{sumOver}
 use Rattle.round.proofs.Entries.{entries-length}
-use Rattle.round.proofs.Actions.{at-start-listed}
-use Rattle.round.proofs.Starting.{at-start-sound, listed-distinct}
+use Rattle.round.proofs.Starting.{at-start-sound, listed-distinct, listed-below}
 use Rattle.round.proofs.Lasting.{routine-in-time, left-most}
 use Rattle.round.proofs.Paying.{worth, leftOf, turn-pays, ends-pay}
 use Rattle.round.proofs.PayingPasses.{total, pass-pays}
@@ -126,7 +125,7 @@ module _ (book : List ℕ) (a : Accepted book) where
     pub enough : Enough book g
     unfolding atStart round
     enough =
-        let all = at-start-listed book g (a .laid .counts) z f in
+        let all = listed-below book g a z f in
         let set = isSignalStep book in
         let few = few-steps book a set (listedIn g) (listed-distinct book g a z f) all in
         let passes =

@@ -25,16 +25,12 @@ use Rattle.fitting.proofs.Lists.{joined, LineRight, used-all}
 use Rattle.fitting.proofs.Decides.{fit-lists}
 use Rattle.fitting.proofs.Room.{few}
 use Rattle.round.specs.Actions.{kept}
-use Rattle.round.proofs.Along.{All}
+use Rattle.round.proofs.Along.{All, all-append}
 
 module _ (P : ℕ → Type 0) where
   all-of : (rs : List ℕ) → ((i : ℕ) → i < length rs → P (getD rs i 0)) → All P rs
   all-of [] h = tt
   all-of (r ∷ rs) h = (h 0 (omega arith), all-of rs (λ i l. h (suc i) (omega arith)))
-
-  all-append : (rs qs : List ℕ) → All P rs → All P qs → All P (rs ++ qs)
-  all-append [] qs h k = k
-  all-append (r ∷ rs) qs h k = (h .0, all-append rs qs (h .1) k)
 
   pub all-kept : (test : ℕ → Bool) (rs : List ℕ) → All P rs → All P (kept test rs)
   unfolding kept

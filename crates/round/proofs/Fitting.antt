@@ -3,7 +3,7 @@
 use Prim.Native.Nat.{ℕ, _<_}
 use mathlib.Core.Path.{_≡_, _∙_}
 use mathlib.Core.Bool.{Bool, true}
-use mathlib.Core.List.{List, [], _∷_, _++_}
+use mathlib.Core.List.{List, [], _∷_}
 use native.Mathlib.Omega.{arith}
 use native.Mathlib.Decide.{decLt}
 use lib.Dec.{ltb}
@@ -23,14 +23,10 @@ use Rattle.round.specs.declared.Effect.{Effect}
 use Rattle.round.specs.declared.Effect.the-variants.{Nothing, Mark, Put, Add, Give, GiveNumber, Start, Stop, Suspend, Resume}
 use Rattle.round.specs.State.{State, withGame, withNumbers}
 use Rattle.round.specs.Ticks.{mostNumbers, given, effectOn}
-use Rattle.round.proofs.Acts.{InRange, EachNumber, Ranged, Right, nothing, mark, put, add, give, giveNumber}
+use Rattle.round.proofs.Acts.{InRange, NumbersRight, Ranged, Right, nothing, mark, put, add, give, giveNumber}
 use Rattle.round.proofs.Acts.{start, stop, suspend, resume}
+use Rattle.round.proofs.Along.{all-append}
 use Rattle.round.proofs.Sound.{Sound}
-
--- numbers of which P holds, and one more
-each-and : (P : ℤ → Type 0) (l : List (ℕ × ℤ)) (e : ℕ) (v : ℤ) → EachNumber P l → P v → EachNumber P (l ++ ((e, v) ∷ []))
-each-and P [] e v h p = (p, tt)
-each-and P (x ∷ xs) e v h p = (h .0, each-and P xs e v (h .1) p)
 
 module _ {book : List ℕ} {s : State} (h : Sound book s) where
   -- counters in use are in range, the others are 0, and so is anything beyond the array
@@ -65,7 +61,7 @@ module _ {book : List ℕ} {s : State} (h : Sound book s) where
       game-sound (obeyed g kind n) (obeyed-fits book g (h .fits) kind n (h .sized) below) (obeyed-sized g (h .sized) kind n)
 
   -- a signal is given, and these are the numbers then
-  given-sound : (e : ℕ) (l : List (ℕ × ℤ)) (over : Bool) → EachNumber InRange l → Sound book (withNumbers (given s e) l over)
+  given-sound : (e : ℕ) (l : List (ℕ × ℤ)) (over : Bool) → NumbersRight l → Sound book (withNumbers (given s e) l over)
   given-sound e l over numbers =
       record {
         fits = h .fits;
@@ -107,7 +103,7 @@ module _ (book : List ℕ) (a : Accepted book) where
   effect-sound s (Give e) (give below) h = given-sound h e (s .numbers) (s .tooMany) (h .numbers)
   effect-sound s (GiveNumber e v) (giveNumber below inside) h =
       by-test (Sound book) (ltb (length (s .numbers)) mostNumbers)
-      (λ room. given-sound h e _ (s .tooMany) (each-and InRange (s .numbers) e v (h .numbers) (inside (sound-ranged h))))
+      (λ room. given-sound h e _ (s .tooMany) (all-append (λ x. InRange (x .1)) (s .numbers) ((e, v) ∷ []) (h .numbers) (inside (sound-ranged h), tt)))
       (λ full. given-sound h e (s .numbers) true (h .numbers))
   effect-sound s (Start t) (start below) h = order-sound h 1 t below
   effect-sound s (Stop t) (stop below) h = order-sound h 2 t below

@@ -22,7 +22,7 @@ use Rattle.round.specs.History.{countBelow}
 use Rattle.round.specs.Ticks.{tick, fresh, effectOn}
 use Rattle.round.specs.Rounds.{mostTicks}
 use Rattle.round.specs.Enough.{IfItGoesOn, InTime}
-use Rattle.round.proofs.Counting.{count-all}
+use Rattle.round.proofs.Counting.{one, count-all}
 use Rattle.round.proofs.Leads.{isHalt, formAt, Leaves, leads, restOver}
 use Rattle.round.proofs.Acts.{Sorted}
 use Rattle.round.proofs.Sorting.{sorted}
@@ -45,11 +45,11 @@ module _ (counts : Counts) (steps : List ℕ) where
         (λ t. omega arith) (λ t. ahead-all counts steps b w P (x .place))
 
     left-falls :
-        (P : ℕ → Bool) (x : Position) (q : ℕ) → Leaves counts steps x q → leftAt P (fresh q) + (if P (x .place) then 1 else 0) ≤ leftAt P x
+        (P : ℕ → Bool) (x : Position) (q : ℕ) → Leaves counts steps x q → leftAt P (fresh q) + one (P (x .place)) ≤ leftAt P x
     unfolding leftAt
     left-falls P x q (leads e) =
         let less = ahead-falls counts steps b w P (x .place) q e in
-        by-test (λ (n : ℕ). aheadOf P q + (if P (x .place) then 1 else 0) ≤ n) (x .begun && isHalt (formAt counts steps (x .place)))
+        by-test (λ (n : ℕ). aheadOf P q + one (P (x .place)) ≤ n) (x .begun && isHalt (formAt counts steps (x .place)))
         (λ t. omega (arith, less, ahead-all counts steps b w P (x .place))) (λ t. less)
     left-falls P x q (restOver begun h) = rw (begun, h) (ahead-over counts steps b w P (x .place) (x .place + 1) h)
 
@@ -103,12 +103,12 @@ module _ (book : List ℕ) (a : Accepted book) where
 
     pub left-less :
         (x : Position) (q : ℕ) → Leaves (countsOf book) (routineSteps book r) x q →
-        left set r (fresh q) + (if set r (x .place) then 1 else 0) ≤ left set r x
+        left set r (fresh q) + one (set r (x .place)) ≤ left set r x
     unfolding left
     left-less x q e = decided (decLt r (routinesOf book))
       where
         decided :
             (d : Dec (r < routinesOf book)) →
-            leftBy set r (fresh q) d + (if set r (x .place) then 1 else 0) ≤ leftBy set r x d
+            leftBy set r (fresh q) d + one (set r (x .place)) ≤ leftBy set r x d
         decided (yes l) = left-falls (countsOf book) (routineSteps book r) (parse-of book a r l) (parse-pauses book a r l) (set r) x q e
         decided (no n) = absurd (n h)

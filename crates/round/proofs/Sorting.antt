@@ -37,7 +37,7 @@ use Rattle.round.specs.Ticks.{fresh, countAt, tickOf, tickAt, tick}
 use Rattle.round.specs.Demand.{isSignalOp, wait, waitFor, join, joinFor, read}
 use Rattle.round.proofs.Forms.{opOf, step-op}
 use Rattle.round.proofs.Leads.{isHalt, nextBy, formAt, Leaves, leads, restOver}
-use Rattle.round.proofs.Acts.{InRange, EachNumber, Sorted, SortedTick, isTelling}
+use Rattle.round.proofs.Acts.{InRange, NumbersRight, Sorted, SortedTick, isTelling}
 use Rattle.round.proofs.Acts.{nothing, mark, put, add, give, giveNumber, start, stop, suspend, resume}
 use Rattle.round.proofs.Acts.{silent, marks, gives, givesNumber, ends, rests}
 use Rattle.round.proofs.Fields.{FieldsRight, fields-right}
@@ -50,7 +50,7 @@ sum-in-range (above h) = (leZ-yes tt, leZ-yes tt)
 sum-in-range (below h) = (leZ-yes tt, leZ-yes tt)
 
 -- a number given with signal e, or 0 where there is none
-number-in-range : (e : ℕ) (xs : List (ℕ × ℤ)) (i : ℕ) → EachNumber InRange xs → InRange (getD (numbersWith e xs) i (pos 0))
+number-in-range : (e : ℕ) (xs : List (ℕ × ℤ)) (i : ℕ) → NumbersRight xs → InRange (getD (numbersWith e xs) i (pos 0))
 unfolding numbersWith
 number-in-range e [] i h = (leZ-yes tt, leZ-yes tt)
 number-in-range e (x ∷ xs) zero h =
@@ -72,7 +72,7 @@ module _ (counts : Counts) (r : ℕ) (steps : List ℕ) (x : Position) (s : Stat
   form-there : {k : Kind} → There k → formAt counts steps (x .place) ≡ stands (formOf k)
   form-there e = view-seen counts steps (sizeOf steps) (x .place) (step-below counts steps (x .place) e) ∙ ap seen e
 
-  -- the op of a step is its kind's, so the kind says whether it is a signal step
+  -- the op of a step is its kind's, so the kind says whether it is a signal or a mark step
   tells : {k : Kind} → There k → isTelling (opAt steps (x .place)) ≡ isTelling (opOf k)
   tells e = ap isTelling (step-op counts steps (x .place) e)
 

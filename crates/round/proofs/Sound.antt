@@ -8,11 +8,11 @@ use Rattle.layout.specs.Layout.{mostRoutines, mostSignals}
 use Rattle.game.specs.Game.{Sized}
 use Rattle.fitting.specs.Fits.{Fits}
 use Rattle.round.specs.State.{State}
-use Rattle.round.proofs.Acts.{InRange, EachNumber}
+use Rattle.round.proofs.Acts.{NumbersRight}
 
 pub record Sound (book : List ℕ) (s : State) : Type 0 where
   pub fits : Fits book (s .game)
   pub sized : Sized (s .game)
   pub present : length (s .present) ≡ mostSignals
   pub endSignals : length (s .endSignals) ≡ mostRoutines
-  pub numbers : EachNumber InRange (s .numbers)
+  pub numbers : NumbersRight (s .numbers)

@@ -14,9 +14,14 @@ use Rattle.numbers.specs.Choice.{if_then_else_}
 use Rattle.numbers.proofs.Tests.{by-test}
 use Rattle.round.specs.History.{Among}
 use Rattle.round.specs.Actions.{kept}
-use Rattle.round.proofs.Counting.{sumOver, one}
+use Rattle.round.proofs.Counting.{one}
 use Rattle.round.proofs.Along.{All, Distinct}
 use Rattle.round.proofs.Listing.{among-or}
+
+-- a sum over some numbers
+unfoldable pub sumOver : (ℕ → ℕ) → List ℕ → ℕ
+sumOver f [] = 0
+sumOver f (r ∷ rs) = f r + sumOver f rs
 
 pub over-le : (f g : ℕ → ℕ) → ((r : ℕ) → f r ≤ g r) → (rs : List ℕ) → sumOver f rs ≤ sumOver g rs
 unfolding sumOver

@@ -19,7 +19,7 @@ use Rattle.round.specs.Demand.{Comes}
 use Rattle.round.proofs.After.{round-along}
 use Rattle.round.proofs.Sound.{Sound}
 use Rattle.round.proofs.Turned.{turn-turned}
-use Rattle.round.proofs.Waiting.{clash}
+use Rattle.numbers.proofs.Tests.{clash}
 use Rattle.round.proofs.Closing.{there-again}
 use Rattle.round.proofs.Demand.{none-lost}
 use Rattle.round.proofs.Trying.{InOrder, order-at, There, Becomes, becomes-same, becomes-both, becomes-by, turn-order}

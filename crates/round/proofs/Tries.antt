@@ -3,13 +3,13 @@
 -- fitting asks: with nothing begun at a place of the routine, or on a timed step with less left than its n.
 use Prim.Native.Nat.{ℕ, _+_, _-_, _<_, _≤_}
 use mathlib.Core.Path.{_≡_, refl, sym, _∙_}
-use mathlib.Core.Bool.{false, _&&_, not, true≢false, and-true}
+use mathlib.Core.Bool.{false, _&&_, not, and-true}
 use mathlib.Core.List.{List, [], _∷_}
 use native.Mathlib.Omega.{arith}
 use native.Mathlib.Decide.{decLt}
 use borrow.Author.Tests.{eqb-false}
 use lib.Dec.{eqb}
-use Rattle.numbers.proofs.Tests.{by-test}
+use Rattle.numbers.proofs.Tests.{clash, by-test}
 use Rattle.kinds.specs.declared.Counts.{Counts}
 use Rattle.kinds.specs.Steps.{opAt, stepAt}
 use Rattle.forms.specs.Timed.{Timed}
@@ -30,7 +30,7 @@ some-left k h = elim (decLt 0 k) [ yes l ↦ l | no l ↦ absurd (eqb-false k 0 
 
 module _ (counts : Counts) (steps : List ℕ) where
   pub fresh-stands : (p : ℕ) → p ≤ sizeOf steps → Stands counts steps (fresh p)
-  fresh-stands p h = record { inside = h; whereBegun = λ b. absurd (true≢false (sym b)); elsewhere = λ b. refl }
+  fresh-stands p h = record { inside = h; whereBegun = λ b. clash b refl; elsewhere = λ b. refl }
 
   -- a timed step with n, at position x
   module _ (x : Position) (n : ℕ) (timed : Timed (stepAt counts steps (x .place)) n) where
@@ -46,7 +46,7 @@ module _ (counts : Counts) (steps : List ℕ) where
         record {
           inside = h .inside;
           whereBegun = λ b. (n, timed, omega (arith, count-within h));
-          elsewhere = λ b. absurd (true≢false b);
+          elsewhere = λ b. clash refl b;
         }
 
 -- routine r stands at position x
@@ -62,7 +62,7 @@ module _ (counts : Counts) (r : ℕ) (steps : List ℕ) (x : Position) (s : Stat
       by-test (λ a. Sorted counts r steps x s a (missing r (x .place) t ∷ [])) (s .eoi) (λ h. (stays, misses asks none h))
       (λ h. (λ i. i, continues asks none h))
 
-  -- the turn may go on behind the step, which is no signal step
+  -- the turn may go on behind the step, which is no signal or mark step
   module _ (on : Leaves counts steps x (x .place + 1)) (other : isTelling (opAt steps (x .place)) ≡ false) where
     pub tries-sorted :
         (t : Thing) (e : Effect) (y : Position) → AsksFor (stepAt counts steps (x .place)) t → Right counts s e → isGiving e ≡ false →

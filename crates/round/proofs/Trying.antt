@@ -3,9 +3,10 @@
 -- brings and keeps is what it carries (Coming.antt).
 use Prim.Native.Nat.{ℕ}
 use mathlib.Core.Path.{_≡_, refl, sym, _∙_}
-use mathlib.Core.Bool.{Bool, true, false, true≢false}
+use mathlib.Core.Bool.{Bool, true, false}
 use mathlib.Core.List.{List, [], _∷_, _++_}
 use mathlib.Core.Logic.{_↔_, Iff·symm, Iff·trans, _⊎_, inl, inr, ⊎-map, ⊎-elim}
+use Rattle.numbers.proofs.Tests.{clash}
 use Rattle.layout.specs.Layout.{countsOf}
 use Rattle.directory.specs.Directory.{routineSteps}
 use Rattle.book.specs.Accepted.{Accepted}
@@ -18,7 +19,7 @@ use Rattle.round.specs.Ticks.{effectOn}
 use Rattle.round.specs.Rounds.{ticks, ticksOf, turn}
 use Rattle.round.specs.Demand.{endsRoutine, Comes}
 use Rattle.round.proofs.Acts.{Right, Says, Stops}
-use Rattle.round.proofs.Histories.{says-none, somewhere-append, in-second, in-either}
+use Rattle.round.proofs.Histories.{says-none, somewhere-append, in-first, in-second}
 use Rattle.round.proofs.Stepping.{ticks-by}
 use Rattle.round.proofs.Sound.{Sound}
 use Rattle.round.proofs.Coming.{goes-carries, all-brought}
@@ -81,11 +82,9 @@ order-append P (h ∷ a) b o p = (
 )
 
 since-append : (P : Thing → Type 0) (a b : List Happening) (t : Thing) → Since (Since P a) b t ↔ Since P (a ++ b) t
-since-append P a b t = Iff·trans regroup (⊎-map (λ k. k) some, ⊎-map (λ k. k) (somewhere-append (Comes t) a b))
-  where
-    some : Somewhere (Comes t) a ⊎ Somewhere (Comes t) b → Somewhere (Comes t) (a ++ b)
-    some (inl w) = in-either (Comes t) a b true (λ e. w) (λ e. absurd (true≢false e))
-    some (inr w) = in-second (Comes t) a b w
+since-append P a b t =
+    let some = ⊎-elim (in-first (Comes t) a b) (in-second (Comes t) a b) in
+    Iff·trans regroup (⊎-map (λ k. k) some, ⊎-map (λ k. k) (somewhere-append (Comes t) a b))
 
 -- what a try says that stands somewhere in a history
 pub order-at :
@@ -163,8 +162,8 @@ module _ (book : List ℕ) (a : Accepted book) where
         InOrder (There s) told
     stop-order x s Stops.ends = (tt, tt)
     stop-order x s Stops.rests = tt
-    stop-order x s (Stops.misses q m e) = ((λ h. true≢false (sym h ∙ m)), tt)
-    stop-order x s (Stops.continues q m e) = ((λ h. true≢false (sym h ∙ m)), tt)
+    stop-order x s (Stops.misses q m e) = ((λ h. clash h m), tt)
+    stop-order x s (Stops.continues q m e) = ((λ h. clash h m), tt)
 
     step-becomes :
         (x : Position) (s : State) (e : Effect) (told : List Happening) → Right (countsOf book) s e →

@@ -9,7 +9,7 @@ use mathlib.Core.Logic.{_⊎_, inl, inr, _≢_}
 use native.Mathlib.Decide.{ℕ-discrete}
 use native.Mathlib.Omega.{arith}
 use Rattle.numbers.proofs.Tests.{and-both, not-true-false, by-flag}
-pub use Rattle.numbers.proofs.Tests.{clash}
+use Rattle.numbers.proofs.Tests.{clash}
 use Rattle.round.specs.State.{State, Happening}
 use Rattle.round.specs.History.{howMany, Among}
 use Rattle.round.specs.Rounds.{Turn, took, Played, followedBy, isDone, allDone, turn, pass}

@@ -2,7 +2,7 @@
 -- By induction on routines and passes, from what is shown of a turn's steps; the threads' instructions keep standing for the positions.
 use Prim.Native.Nat.{ℕ, zero, suc, _<_, _≤_}
 use mathlib.Core.Path.{_≡_, sym, _∙_, ap, refl, subst}
-use mathlib.Core.Bool.{Bool, true, false, _||_, not, true≢false}
+use mathlib.Core.Bool.{Bool, true, false, _||_, not}
 use mathlib.Core.List.{List, [], _∷_, _++_, append-nil}
 use mathlib.Core.Logic.{_≢_, _⊎_, inl, inr}
 use native.Mathlib.Omega.{arith}
@@ -11,6 +11,7 @@ use native.Mathlib.Decide.{ℕ-discrete}
 use native.Mathlib.Numerals.{add-one}
 use borrow.Author.Tests.{eq-eqb, ne-eqb}
 use lib.Dec.{eqb}
+use Rattle.numbers.proofs.Tests.{clash}
 use Rattle.layout.specs.Layout.{routinesOf}
 use Rattle.directory.specs.Directory.{routineSteps}
 use Rattle.book.specs.Accepted.{Accepted}
@@ -34,11 +35,10 @@ use Rattle.round.proofs.TurnLaws.{isGoing}
 use Rattle.round.proofs.Parsed.{size-same}
 use Rattle.round.proofs.Lasting.{routine-in-time}
 use Rattle.round.proofs.Coming.{turn-untouched}
-use Rattle.round.proofs.AfterTurn.{going-parts, end-keeps, position-after, turn-over, taken, turn-taken}
+use Rattle.round.proofs.AfterTurn.{going-parts, end-keeps, position-after, taken, turn-by, turn-taken}
 use Rattle.round.proofs.Staying.{turn-sound, again-sound}
 use Rattle.round.proofs.Turned.{turn-turned}
 use Rattle.round.proofs.After.{pass-keeps, instant-keeps}
-use Rattle.numbers.proofs.Tests.{by-flag}
 use Rattle.round.proofs.Waiting.{done-append}
 use Rattle.rules.specs.Instructions.{CONT, Instruction}
 use Rattle.rules.specs.Schedulers.{is, Scheduler, has, statusOf}
@@ -64,7 +64,7 @@ done-turn Continued = refl
 -- why rule 33 passes over a routine
 not-going : (suspended continues : Bool) → not (suspended || not continues) ≡ false → (suspended ≡ true) ⊎ (continues ≡ false)
 not-going true continues h = inl refl
-not-going false true h = absurd (true≢false h)
+not-going false true h = clash refl h
 not-going false false h = inr refl
 
 -- rules 35 and 36
@@ -131,20 +131,16 @@ module _ (book : List ℕ) (a : Accepted book) where
             let (n, ends) = ends-of book a r (mostTicks steps) (positionOf x) s time sound few-before .1 ms in
             let inside : x .place ≤ sizeOf steps = omega (arith, sound .fits .placesInRange r l, size-same book a r l) in
             let (i, rule, w) = routine-by-rules book a r l n (positionOf x) s ms (run r) inside (stand r l) ends in
-            let (awake, stage) = going-parts (x .suspended) (x .stage) going in
-            let thread = rule34 (suspended-seen s ms r ∙ awake) (stage-seen s ms r ∙ stage-continues (x .stage) stage) rule in (
+            let (unsuspended, stage) = going-parts (x .suspended) (x .stage) going in
+            let thread = rule34 (suspended-seen s ms r ∙ unsuspended) (stage-seen s ms r ∙ stage-continues (x .stage) stage) rule in (
               runs run r i,
               rw (← done-turn (t .ending), after-seen r t (ms ++ marksIn (t .told))) thread,
               stands-after i going w,
             )
 
         pub turn-by-rules : turn book r s .state .tooMany ≡ false → TurnRule book a r run s ms (turn book r s)
-        turn-by-rules few =
-            by-flag (isGoing s r)
-            (λ h.
-            let same = turn-taken book r s h in
-            subst (TurnRule book a r run s ms) (sym same) (turn-taken-rule h (sym (ap (λ (d : Played). d .state .tooMany) same) ∙ few)))
-            (λ h. subst (TurnRule book a r run s ms) (sym (turn-over book r s h)) (turn-over-rule h))
+        turn-by-rules =
+            turn-by book r s (λ d. d .state .tooMany ≡ false → TurnRule book a r run s ms d) (λ h few. turn-over-rule h) turn-taken-rule
 
   -- some routines in turn
   turns-by-rules :
