@@ -2,12 +2,13 @@
 -- flag gives a signal or ends a routine, so it pays from what is left of the listed routines' signal steps and of the routines themselves;
 -- at the start that is at most the most steps and the most routines.
 use Prim.Native.Nat.{ℕ, zero, suc, _+_, _<_, _≤_}
-use mathlib.Core.Path.{_≡_, refl}
+use mathlib.Core.Path.{_≡_, refl, ap}
 use mathlib.Core.Bool.{Bool}
 use mathlib.Core.List.{List, [], _∷_}
 use mathlib.Core.Logic.{inl, inr}
 use native.Mathlib.Omega.{arith}
 use lib.ListN.{length}
+use Rattle.numbers.specs.Choice.{if_then_else_}
 use Rattle.numbers.proofs.Tests.{by-test}
 use Rattle.kinds.specs.declared.Counts.{Counts}
 use Rattle.layout.specs.Layout.{mostRoutines, routinesOf, countsOf}
@@ -24,7 +25,7 @@ use Rattle.round.specs.State.{State}
 use Rattle.round.specs.History.{countBelow, stepsIn, howMany}
 use Rattle.round.specs.Actions.{atStart}
 use Rattle.round.specs.Ticks.{tick, fresh, effectOn}
-use Rattle.round.specs.Rounds.{follow, ticks, mostPasses, listedIn, turn, pass, instant, round}
+use Rattle.round.specs.Rounds.{follow, ticks, Played, followedBy, allDone, Round, mostPasses, listedIn, turn, pass, instant, round}
 use Rattle.round.specs.Enough.{IfItGoesOn, InTime, RoundEnds, Enough}
 use Rattle.round.specs.Demand.{isSignalStep, givesSignal, endsRoutine}
 use Rattle.round.proofs.Along.{All}
@@ -62,6 +63,13 @@ module _ (counts : Counts) (r : ℕ) (steps : List ℕ) where
       behind (Goes q e) h on = rw (on q (effectOn e s) h)
       behind (Halts how y) h on = refl
 
+-- rules 37 and 38: a pass, and the others unless all are done
+abbrev passThen : Played → Round → Round
+passThen first others =
+    if allDone (first .turns)
+    then record { played = first; passes = 1 }
+    else record { played = followedBy first (others .played); passes = others .passes + 1 }
+
 -- where n passes are enough for a round, it comes out the same with more
 more-passes :
     (book : List ℕ) (k n : ℕ) → n ≤ k → (rs : List ℕ) (s : State) → RoundEnds book n rs s → instant book k rs s ≡ instant book n rs s
@@ -69,7 +77,7 @@ unfolding instant RoundEnds
 more-passes book k zero l rs s h = absurd h
 more-passes book zero (suc n) l rs s h = absurd (omega arith)
 more-passes book (suc k) (suc n) l rs s (inl done) = rw done
-more-passes book (suc k) (suc n) l rs s (inr rest) = rw (more-passes book k n (omega arith) rs _ (rest .1))
+more-passes book (suc k) (suc n) l rs s (inr (on, rest)) = ap (passThen (pass book rs s)) (more-passes book k n (omega arith) rs _ rest)
 
 -- a routine that takes turns may still end
 abbrev mayEnd : ℕ → Position → ℕ
@@ -122,20 +130,23 @@ module _ (book : List ℕ) (a : Accepted book) where
         let few = start .fits .lengthsInRange .0 in
         omega (arith, entries-length (atStart g .game .listed) (fit-lists book (atStart g .game) (start .fits) .0) (start .sized .listed))
 
-    pub enough : Enough book g
-    unfolding atStart round
-    enough =
+    passes-enough : RoundEnds book mostPasses (listedIn g) (atStart g)
+    unfolding atStart
+    passes-enough =
         let all = listed-below book g a z f in
         let set = isSignalStep book in
         let few = few-steps book a set (listedIn g) (listed-distinct book g a z f) all in
-        let passes =
         round-ends (turn-laws book a) (listedIn g) all (budget (listedIn g)) (pass-spends (listedIn g) all)
         (λ s. refl) mostPasses (atStart g) (at-start-sound book g a z f) refl refl
-        (omega (arith, few, total-left set (listedIn g) all (atStart g), total-ends (listedIn g) (atStart g), few-listed)) in
+        (omega (arith, few, total-left set (listedIn g) all (atStart g), total-ends (listedIn g) (atStart g), few-listed))
+
+    pub enough : Enough book g
+    unfolding round
+    enough =
         record {
           turns = routine-in-time book a;
-          passes = passes;
+          passes = passes-enough;
           moreTicks = λ r l x s m.
               more-ticks (countsOf book) r (routineSteps book r) _ _ (omega arith) x s (routine-in-time book a r l x s);
-          morePasses = λ m. more-passes book _ _ (omega arith) (listedIn g) (atStart g) passes;
+          morePasses = λ m. more-passes book _ _ (omega arith) (listedIn g) (atStart g) passes-enough;
         }
