@@ -59,9 +59,9 @@ use Rattle.kinds.specs.Steps.{stepBytes, opAt, fieldA, fieldB, fieldN, decoded,
 use Rattle.blocks.specs.declared.Walk.{Walk}
 use Rattle.blocks.specs.Blocks.{View, seen, beyond, viewAt, routineOf}
 use Rattle.verdicts.specs.declared.Verdict.{Verdict}
-use Rattle.verdicts.specs.Verdicts.{_orElse_, firstRefusal, refused}
+use Rattle.verdicts.specs.Verdicts.{_orElse_, firstRefusal}
 use Rattle.layout.specs.Layout.{routinesOf, stepsOf, layoutVerdict, countsOf}
-use Rattle.directory.specs.Directory.{firstStep, stepCount, directoryVerdict, routinePart, routineSteps, stepsBefore}
+use Rattle.directory.specs.Directory.{firstStep, stepCount, directoryVerdict, routinePart, routineSteps}
 use Rattle.book.specs.Book.{stepVerdict, stepsPart, stepsVerdict, routineWalk}
 use Rattle.book.specs.Book.{nestingOf, pausingOf, nestingVerdict, pausingVerdict, bookVerdict}
 use Rattle.game.specs.declared.Game.{Game}
@@ -247,12 +247,15 @@ use lib.Dec.{eqb, ltb}
 use lib.ListN.{set, take, drop, replicate}
 use lib.IntN.{ℤ, pos}
 use Rattle.numbers.specs.Choice.{if_then_else_}
+use Rattle.verdicts.specs.declared.Verdict.{Verdict}
+use Rattle.verdicts.specs.Verdicts.{_orElse_}
 use Rattle.layout.specs.Layout.{mostRoutines, mostSignals, routinesOf, countsOf}
+use Rattle.directory.specs.Directory.{routineSteps}
 use Rattle.book.specs.Book.{bookVerdict, shown}
 use Rattle.game.specs.declared.Routine.{Routine}
 use Rattle.lines.specs.declared.Line.{Line}
 use Rattle.game.specs.declared.Game.{Game}
-use Rattle.lines.specs.Lines.{entriesOf, isIn, appended}
+use Rattle.lines.specs.Lines.{entriesOf}
 use Rattle.game.specs.Game.{blankGame, routineAt, isBroadcast, withCounter}
 use Rattle.setup.specs.declared.Outcome.{Outcome}
 use Rattle.setup.specs.SetUp.{unlessRefused, newGame, setUp}
@@ -511,13 +514,17 @@ use lib.IntN.{ℤ, pos, negsuc}
 use Rattle.kinds.specs.Steps.{rowOf, decoded, stepAt}
 use Rattle.blocks.specs.Blocks.{blockBy, stepOf, routineOf}
 use Rattle.partners.specs.Partners.{partnerOf}
+use Rattle.verdicts.specs.Verdicts.{refused, firstRefusal}
 use Rattle.layout.specs.Layout.{layoutVerdict}
+use Rattle.directory.specs.Directory.{stepsBefore, directoryVerdict, routinePart}
 use Rattle.book.specs.Book.{bookVerdict}
 use Rattle.lines.specs.Below.{allBelow, anyBelow}
+use Rattle.lines.specs.Lines.{isIn, appended}
 use Rattle.game.specs.Game.{blankGame, withStart}
 use Rattle.fit_arrays.specs.Arrays.{entryFits, lineFits, countersFit, signalsFit}
 use Rattle.fit_routines.specs.Routines.{routineFits, slotFits}
 use Rattle.fitting.specs.Fitting.{fitsBook}
+use Rattle.setup.specs.SetUp.{newGame}
 use Rattle.orders.specs.Orders.{obeyed}
 use Rattle.round.specs.State.{numbersWith, isEndThere, isThere}
 use Rattle.round.specs.Actions.{kept, each, atStart}
