@@ -12,9 +12,8 @@ use Rattle.blocks.specs.declared.Fault.the-variants.{Unreadable, Misnested}
 use Rattle.blocks.specs.declared.Walk.{Walk}
 use Rattle.blocks.specs.declared.Walk.the-variants as walk
 use Rattle.verdicts.specs.Verdicts.{accepted, refused, _orElse_, firstRefusal}
-use Rattle.layout.specs.Layout.{routinesOf, stepsOf, stepsFrom, layoutVerdict}
+use Rattle.layout.specs.Layout.{routinesOf, stepsOf, stepsFrom, layoutVerdict, countsOf}
 use Rattle.directory.specs.Directory.{firstStep, stepCount, directoryVerdict, routineFrom, routinePart, routineSteps}
-use Rattle.layout.specs.Layout.{countsOf}
 use Rattle.kinds.specs.Steps.{stepAt}
 use Rattle.blocks.specs.Blocks.{View, viewAt, routineOf}
 

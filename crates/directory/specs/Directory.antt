@@ -5,12 +5,13 @@ use lib.Dec.{leb, eqb}
 use lib.ListN.{length, drop, take}
 use Rattle.numbers.specs.Choice.{if_then_else_}
 use Rattle.numbers.specs.Numbers.{halfAt}
-use Rattle.kinds.specs.Steps.{stepBytes}
+use Rattle.kinds.specs.declared.Step.{Step}
+use Rattle.kinds.specs.Steps.{stepBytes, stepAt}
 use Rattle.verdicts.specs.declared.Verdict.{Verdict}
 use Rattle.verdicts.specs.Verdicts.{refused, _orElse_, unless, firstRefusal}
-use Rattle.layout.specs.Layout.{headerBytes, entryBytes, routinesOf, stepsOf, stepsFrom}
+use Rattle.layout.specs.Layout.{headerBytes, entryBytes, routinesOf, stepsOf, stepsFrom, countsOf}
 
--- routine r's entry of the directory
+-- "Directory: R entries, first step and step count": routine r's entry
 abbrev pub firstStep : List ℕ → ℕ → ℕ
 firstStep s r = halfAt s (headerBytes + entryBytes * r)
 
@@ -22,6 +23,7 @@ unfoldable pub stepsBefore : List ℕ → ℕ → ℕ
 stepsBefore s zero = 0
 stepsBefore s (suc r) = stepsBefore s r + stepCount s r
 
+-- "entries follow each other from step 0 without gaps and end at S; a count may be 0"
 -- 4. "place is the first routine whose first step isn't the sum of the counts before it, or R if only the total isn't S"
 abbrev pub entryVerdict : List ℕ → ℕ → Verdict
 entryVerdict s r = unless (eqb (firstStep s r) (stepsBefore s r)) (refused 4 r)
@@ -43,6 +45,10 @@ routinePart s r = drop (routineFrom s r) s
 abbrev pub routineSteps : List ℕ → ℕ → List ℕ
 routineSteps s r = take (stepBytes * stepCount s r) (routinePart s r)
 
--- the byte of the book where they begin; 0 for a routine that begins past the book's end, of which no step is there
+-- "Places are counted from the routine's own first step.": the step of routine r at place p
+abbrev pub routineStep : List ℕ → ℕ → ℕ → Step
+routineStep s r p = stepAt (countsOf s) (routineSteps s r) p
+
+-- the byte of the book where its steps begin; 0 for a routine that begins past the book's end, of which no step is there
 unfoldable pub routineStepsFrom : List ℕ → ℕ → ℕ
 routineStepsFrom s r = if leb (routineFrom s r) (length s) then routineFrom s r else 0

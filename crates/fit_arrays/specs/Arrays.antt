@@ -1,4 +1,5 @@
--- Whether the lists, the counters and the signals of a game fit, as it is tested, each slot of an array in turn.
+-- Whether the lists, the counters and the signals of a game fit a book, as it is tested, each slot of an array in turn: document 01,
+-- "A game fits a book if". "anything kept beyond them is 0; every number lies in its range".
 use Prim.Native.Nat.{ℕ}
 use mathlib.Core.Bool.{Bool, false, _&&_, _||_, not}
 use mathlib.Core.List.{List}
@@ -25,7 +26,7 @@ entryFits l routines i =
 unfoldable pub lineFits : Line → ℕ → Bool
 lineFits l routines = leb (l .len) mostEntries && allBelow mostEntries (entryFits l routines)
 
--- slot c of the counters: a counter of the book, or beyond C, where only 0 lies from 0 to 0
+-- slot c of the counters: a counter of the book, which "holds −1,000,000 to 1,000,000", or beyond C, where only 0 lies from 0 to 0
 abbrev pub counterFits : ℤ → ℕ → ℕ → Bool
 counterFits v counters c = if ltb c counters then isWithin v lowestCounter highestCounter else isWithin v (pos 0) (pos 0)
 

@@ -1,14 +1,12 @@
--- Whether the routines of a game fit a book, as it is tested, each slot of the array in turn.
+-- Whether the routines of a game fit a book, as it is tested, each slot of the array in turn: document 01, "A game fits a book if".
 use Prim.Native.Nat.{ℕ}
 use mathlib.Core.Bool.{Bool, true, false, _&&_, _||_, not}
 use mathlib.Core.List.{List, [], _∷_}
 use lib.Dec.{leb, ltb, eqb}
 use lib.ListN.{getD}
 use Rattle.numbers.specs.Choice.{if_then_else_}
-use Rattle.kinds.specs.Steps.{stepAt}
 use Rattle.forms.specs.Timed.{timedCount}
-use Rattle.layout.specs.Layout.{countsOf}
-use Rattle.directory.specs.Directory.{stepCount, routineSteps}
+use Rattle.directory.specs.Directory.{stepCount, routineStep}
 use Rattle.game.specs.declared.Routine.{Routine}
 use Rattle.game.specs.declared.Game.{Game}
 use Rattle.lines.specs.Lines.{isIn}
@@ -41,7 +39,7 @@ routineFits s r x listed starting =
     leb (x .place) (stepCount s r)
     && stageFits (x .stage) listed
     && startFits (x .stage) starting
-    && leftFits (x .begun) (x .left) (timedCount (stepAt (countsOf s) (routineSteps s r) (x .place)))
+    && leftFits (x .begun) (x .left) (timedCount (routineStep s r (x .place)))
 
 -- slot r of the routines: a routine of the book, or beyond R
 unfoldable pub slotFits : List ℕ → Game → ℕ → Bool

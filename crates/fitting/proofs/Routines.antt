@@ -7,11 +7,9 @@ use mathlib.Core.List.{List}
 use mathlib.Core.Logic.{_↔_, _⊎_, inl, inr, ⊎-elim, Iff·rfl, Iff·trans}
 use native.Mathlib.Omega.{arith}
 use Rattle.numbers.proofs.Tests.{clash}
-use Rattle.kinds.specs.Steps.{stepAt}
 use Rattle.forms.specs.Timed.{timedCount}
 use Rattle.forms.proofs.Timed.{LeftOf, timed}
-use Rattle.layout.specs.Layout.{countsOf}
-use Rattle.directory.specs.Directory.{stepCount, routineSteps}
+use Rattle.directory.specs.Directory.{stepCount, routineStep}
 use Rattle.game.specs.declared.Routine.{Routine}
 use Rattle.game.specs.Game.{notStarted, continuing, rested, ended, stopped, blank}
 use Rattle.fit_routines.specs.Routines.{isBlank, stageFits, routineFits}
@@ -31,7 +29,7 @@ pub record RoutineRight (s : List ℕ) (r : ℕ) (x : Routine) (L S : Type 0) : 
   pub listed : UnderWay (x .stage) → L
   pub unlisted : NotUnderWay (x .stage) → L → ⊥
   pub starting : S → x .stage ≡ notStarted
-  pub begun : x .begun ≡ true → LeftOf (stepAt (countsOf s) (routineSteps s r) (x .place)) (x .left)
+  pub begun : x .begun ≡ true → LeftOf (routineStep s r (x .place)) (x .left)
   pub notBegun : x .begun ≡ false → x .left ≡ 0
 
 apart : (k : ℕ) → UnderWay k → NotUnderWay k → ⊥
@@ -72,7 +70,7 @@ module _ (s : List ℕ) (r : ℕ) (x : Routine) where
       (routineFits s r x listed starting ≡ true) ↔ RoutineRight s r x L S
   unfolding routineFits
   routine-right listed starting l t =
-      let here = stepAt (countsOf s) (routineSteps s r) (x .place) in
+      let here = routineStep s r (x .place) in
       let stage = both (at-most (x .place) (stepCount s r)) (stage-right listed l (x .stage)) in
       let start = both stage (choice starting t (refuted t) (equal (x .stage) notStarted) Iff·rfl) in
       let begun = Iff·trans (less (x .left) (timedCount here)) (timed here (x .left)) in

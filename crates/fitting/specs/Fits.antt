@@ -8,10 +8,9 @@ use lib.IntN.{pos}
 use lib.Signed.{_≤ℤ_}
 use Rattle.numbers.specs.Numbers.{lowestCounter, highestCounter}
 use Rattle.kinds.specs.declared.Step.{Step}
-use Rattle.kinds.specs.Steps.{stepAt}
 use Rattle.forms.specs.Timed.{Timed}
 use Rattle.layout.specs.Layout.{mostRoutines, mostSignals, mostCounters, routinesOf, signalsOf, countersOf, countsOf}
-use Rattle.directory.specs.Directory.{stepCount, routineSteps}
+use Rattle.directory.specs.Directory.{stepCount, routineStep}
 use Rattle.lines.specs.declared.Line.{Line}
 use Rattle.game.specs.declared.Game.{Game}
 use Rattle.lines.specs.Lines.{mostEntries, itemAt}
@@ -25,9 +24,9 @@ In l r = (i : ℕ) × (i < l .len) × (itemAt l i ≡ r)
 abbrev pub BothLists : Game → (Line → Type 0) → Type 0
 BothLists g P = P (g .listed) × P (g .starting)
 
--- "Places are counted from the routine's own first step.": the step at the place of routine r
+-- the step at the place of routine r
 abbrev pub stepHere : List ℕ → Game → ℕ → Step
-stepHere s g r = stepAt (countsOf s) (routineSteps s r) (routineAt g r .place)
+stepHere s g r = routineStep s r (routineAt g r .place)
 
 pub record Fits (s : List ℕ) (g : Game) : Type 0 where
   -- "its numbers of routines, counters and signals are the book's"

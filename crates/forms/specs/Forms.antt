@@ -9,7 +9,7 @@ use Rattle.kinds.specs.declared.Kind.the-variants.{Start, Stop, Suspend, Resume
 use Rattle.forms.specs.declared.Form.{Form}
 use Rattle.forms.specs.declared.Form.the-variants.{Plain, Pausing, IfOpening, ElseMarker, WhileOpening, EndMarker}
 
--- What a step is to the blocks around it. "Op 6 pauses; op 7 does if n is at least 1;"
+-- "Op 6 pauses; op 7 does if n is at least 1; .. Nothing else pauses, a while included."; whether an if does is said of its blocks
 abbrev pub formOf : Kind → Form
 formOf (Mark n) = Plain
 formOf (Set a n) = Plain

@@ -47,7 +47,7 @@ countsFit s =
     && leb (signalsOf s) mostSignals
     && leb (countersOf s) mostCounters
 
--- "Directory: R entries, first step and step count", each of 16 bits
+-- an entry of the directory: "first step and step count", each of 16 bits
 abbrev pub entryBytes : ℕ
 entryBytes = 4
 

@@ -31,7 +31,7 @@ partnerBy on op d p =
     else if eqb op opEnd then (if eqb d 0 then p else higher)
     else same
 
--- k steps are left from place p
+-- k steps are left from place p; behind the last one the search stops
 unfoldable pub partnerOf : List ℕ → ℕ → ℕ → ℕ → ℕ
 partnerOf s zero d p = p
 partnerOf s (suc k) d p = partnerBy (λ e. partnerOf s k e (p + 1)) (opAt s p) d p

@@ -8,7 +8,7 @@ use Rattle.kinds.specs.declared.Step.{Step}
 use Rattle.forms.specs.Timed as timed
 use Rattle.forms.specs.Timed.{Timed}
 use Rattle.layout.specs.Layout.{countsOf}
-use Rattle.directory.specs.Directory.{routineSteps}
+use Rattle.directory.specs.Directory.{routineSteps, routineStep}
 use Rattle.game.specs.declared.Game.{Game}
 use Rattle.round.specs.declared.Ending.{Ending}
 use Rattle.round.specs.declared.Position.{Position}
@@ -19,7 +19,6 @@ use Rattle.round.specs.History.{Somewhere}
 use Rattle.round.specs.Ticks.{telling, tick}
 use Rattle.round.specs.Rounds.{turn, historyOf}
 use Rattle.round.specs.Demand.{AsksFor, wait, waitFor, join, joinFor, read}
-use Rattle.round.specs.Whole.{routineStep}
 use Rattle.round.proofs.Acts.{Asks, Says, silent, marks, gives, givesNumber, finds, Stops, ends, rests, misses, continues}
 use Rattle.round.proofs.Asking.{asked-goes}
 use Rattle.round.proofs.Along.{round-always}

@@ -1,6 +1,6 @@
 -- The steps that a turn may take and the passes that a round may take are enough, so that more would change nothing. A pass that sets the
--- flag gives a signal or ends a routine, so it pays from what is left of the listed routines' signal steps and of the routines themselves;
--- at the start that is at most the most steps and the most routines.
+-- flag gives a signal or ends a routine, so it uses up one of the listed routines' signal steps or one of the routines, of which there are
+-- at most as many as a book may have steps and routines.
 use Prim.Native.Nat.{ℕ, zero, suc, _+_, _<_, _≤_}
 use mathlib.Core.Path.{_≡_, refl, ap}
 use mathlib.Core.Bool.{Bool}

@@ -103,7 +103,9 @@ module _ (book : List ℕ) (a : Accepted book) where
   effect-sound s (Give e) (give below) h = given-sound h e (s .numbers) (s .tooMany) (h .numbers)
   effect-sound s (GiveNumber e v) (giveNumber below inside) h =
       by-test (Sound book) (ltb (length (s .numbers)) mostNumbers)
-      (λ room. given-sound h e _ (s .tooMany) (all-append (λ x. InRange (x .1)) (s .numbers) ((e, v) ∷ []) (h .numbers) (inside (sound-ranged h), tt)))
+      (λ room.
+      let all = all-append (λ x. InRange (x .1)) (s .numbers) ((e, v) ∷ []) (h .numbers) (inside (sound-ranged h), tt) in
+      given-sound h e _ (s .tooMany) all)
       (λ full. given-sound h e (s .numbers) true (h .numbers))
   effect-sound s (Start t) (start below) h = order-sound h 1 t below
   effect-sound s (Stop t) (stop below) h = order-sound h 2 t below

@@ -52,8 +52,8 @@ endsRoutine (past r p t) = false
 endsRoutine (marked r n) = false
 endsRoutine (completed r p) = false
 
--- "A try of op 8 to 12 finds its signal, the joined routine's end or the signal's k-th number missing if it goes no further because that
--- isn't there.": what a step asks for
+-- what a step of op 8 to 12 asks for: "its signal, the joined routine's end or the signal's k-th number", by the table's "8 wait, 9 wait n",
+-- "10 join, 11 join n" and "12 read"
 pub data AsksFor : Step → Thing → Type 0 where
   wait : {e : ℕ} → AsksFor (step.Kind (kind.Wait e)) (signal e)
   waitFor : {e n : ℕ} → AsksFor (step.Kind (kind.WaitFor e n)) (signal e)
@@ -84,13 +84,13 @@ CatchesUp told =
 -- "All this is one claim about the whole round.": a round from the game as lent, "Passes: the number in the round's answer.", and the game
 -- given back
 pub record Demand3 (book : List ℕ) (lent : Game) (passes : ℕ) (back : Game) : Type 0 where
-  -- "passes ≤ 2 + signals given by steps + routines ended"
+  -- passes ≤ 2 + signals given by steps + routines ended
   pub fewPasses : passes ≤ 2 + howMany givesSignal (historyOf book lent) + howMany endsRoutine (historyOf book lent)
-  -- "those signals ≤ the signal steps of the listed routines"; "Listed, suspended: once the eight actions are done."
+  -- those signals ≤ the signal steps of the listed routines; "Listed, suspended: once the eight actions are done."
   pub fewSignals : howMany givesSignal (historyOf book lent) ≤ stepsIn book (isSignalStep book) (listedIn lent)
-  -- "at its end every listed routine that isn't suspended has rested or ended"; "rested or ended is stage 2 or 3 in the game given back"
+  -- at its end every listed routine that isn't suspended has rested or ended; "rested or ended is stage 2 or 3 in the game given back"
   pub restedOrEnded :
       (r : ℕ) → Among r (listedIn lent) → routineAt (atStart lent .game) r .suspended ≡ false →
       (routineAt back r .stage ≡ stage.rested) ⊎ (routineAt back r .stage ≡ stage.ended)
-  -- "each that found something missing which came later in that round went past that step in it"
+  -- each that found something missing which came later in that round went past that step in it
   pub caughtUp : CatchesUp (historyOf book lent)

@@ -1,6 +1,7 @@
 -- The history of a round is true and leaves out no signal, mark, end or miss: each is told as often as it happened. A try is of what its
--- step asks for, and finds it exactly if that was there from the start or came before; and the steps told as completed, carried out in
--- order on the counters before the round, give the counters and numbers behind it.
+-- step asks for, and finds it exactly if that was there from the start or came before; a step without a count that asks for a thing is
+-- completed only by finding it; and the steps told as completed, carried out in order on the counters before the round, give the counters
+-- and numbers behind it.
 use Prim.Native.Nat.{ℕ, _+_, _-_}
 use mathlib.Core.Path.{_≡_}
 use mathlib.Core.Bool.{Bool, true, false}
@@ -11,11 +12,9 @@ use lib.ListN.{length, getD, set}
 use lib.IntN.{ℤ, pos}
 use Rattle.numbers.specs.Choice.{if_then_else_}
 use Rattle.numbers.specs.Numbers.{sumOf, countOf}
-use Rattle.kinds.specs.declared.Step.{Step}
-use Rattle.kinds.specs.Steps.{opAt, fieldA, fieldB, fieldN, stepAt}
+use Rattle.kinds.specs.Steps.{opAt, fieldA, fieldB, fieldN}
 use Rattle.forms.specs.Timed.{Timed}
-use Rattle.layout.specs.Layout.{countsOf}
-use Rattle.directory.specs.Directory.{routineSteps}
+use Rattle.directory.specs.Directory.{routineSteps, routineStep}
 use Rattle.game.specs.declared.Game.{Game}
 use Rattle.game.specs.Game.{routineAt}
 use Rattle.game.specs.Game as stage
@@ -87,10 +86,6 @@ contentsAfter book (completed r p ∷ told) c =
     let steps = routineSteps book r in
     contentsAfter book told (madeBy (opAt steps p) (fieldA steps p) (fieldB steps p) (fieldN steps p) c)
 
--- the step of routine r at place p
-abbrev pub routineStep : List ℕ → ℕ → ℕ → Step
-routineStep book r p = stepAt (countsOf book) (routineSteps book r) p
-
 -- in a round from game g
 pub record ToldWhole (book : List ℕ) (g : Game) : Type 0 where
   -- a signal for each signal step that is carried out
@@ -111,11 +106,11 @@ pub record ToldWhole (book : List ℕ) (g : Game) : Type 0 where
   pub came :
       (t : Thing) → isThere (atStart g) t ≡ false → isThere (round book g .played .state) t ≡ true →
       Somewhere (Comes t) (historyOf book g)
-  -- a try, whether it goes past or not, is of what its step asks for
+  -- "A try of op 8 to 12 finds its signal, the joined routine's end or the signal's k-th number": it is of what its step asks for
   pub asked :
       (r p : ℕ) (t : Thing) → Somewhere (λ h. (h ≡ missing r p t) ⊎ (h ≡ past r p t)) (historyOf book g) →
       AsksFor (routineStep book r p) t
-  -- a step of op 8, 10 or 12 is completed only by finding what it asks for; a timed one may also be completed with none left
+  -- "finds the thing and completes the step": a step of op 8, 10 or 12 is completed only so; a timed one also with none left
   pub completedByFinding :
       (before after : List Happening) (r p : ℕ) (t : Thing) → historyOf book g ≡ before ++ (completed r p ∷ after) →
       AsksFor (routineStep book r p) t → ((n : ℕ) → Timed (routineStep book r p) n → ⊥) →

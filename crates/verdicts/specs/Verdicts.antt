@@ -1,4 +1,4 @@
--- What reading a book answers: document 01, "Turned down because of the input".
+-- What a call tells: document 01, "Turned down because of the input" and "Turned down because of the state".
 use Prim.Native.Nat.{ℕ, zero, suc, _+_}
 use mathlib.Core.Bool.{Bool}
 use lib.Dec.{eqb}
@@ -15,7 +15,7 @@ accepted = record { number = 0; place = 0 }
 abbrev pub refused : ℕ → ℕ → Verdict
 refused k p = record { number = k; place = p }
 
--- the number and the place of each answer
+-- "The answer is the number and the place": those of each answer of reading a book
 abbrev pub verdictOf : Answer → Verdict
 verdictOf Accepted = accepted
 verdictOf TooShort = refused 1 0

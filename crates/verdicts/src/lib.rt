@@ -21,7 +21,7 @@ pub struct Verdict {
     pub place: u32,
 }
 
-// The numbers of the refusals that reading blocks tells before any other.
+// The numbers that reading the blocks of a book tells at once.
 pub const WRONG_STEP: u32 = 5;
 
 pub const WRONG_NESTING: u32 = 6;
