@@ -500,7 +500,7 @@ played cs =
 UNFOLDING = """\
 unfolding playedFrom numbersBelow routineLines markLines obeyed written marksIn countBelow stepsIn howMany instantBy passBy allDone
     ticksBy effectOn tickOf waitsFor fromEnd openingBefore pastPartner atStart each kept appended isThere isEndThere numbersWith newGame
-    blankGame withStart fitsBook routineFits slotFits entryFits lineFits countersFit signalsFit isIn allBelow anyBelow layoutVerdict
+    blankGame withStart isSized fitsBook routineFits slotFits entryFits lineFits countersFit signalsFit isIn allBelow anyBelow layoutVerdict
     directoryVerdict routinePart routineOf stepOf blockBy partnerOf firstSteps stepAt decoded rowOf stepsBefore firstRefusal
 """
 
@@ -523,7 +523,7 @@ use Rattle.lines.specs.Lines.{isIn, appended}
 use Rattle.game.specs.Game.{blankGame, withStart}
 use Rattle.fit_arrays.specs.Arrays.{entryFits, lineFits, countersFit, signalsFit}
 use Rattle.fit_routines.specs.Routines.{routineFits, slotFits}
-use Rattle.fitting.specs.Fitting.{fitsBook}
+use Rattle.fitting.specs.Fitting.{isSized, fitsBook}
 use Rattle.setup.specs.SetUp.{newGame}
 use Rattle.orders.specs.Orders.{obeyed}
 use Rattle.round.specs.State.{numbersWith, isEndThere, isThere}

@@ -19,12 +19,13 @@ use Rattle.book.specs.Accepted.{CountsInRange}
 use Rattle.game.specs.declared.Routine.{Routine}
 use Rattle.game.specs.declared.Game.{Game}
 use Rattle.lines.specs.Lines.{mostEntries}
-use Rattle.game.specs.Game.{blank, routineAt}
+use Rattle.game.specs.Game.{blank, routineAt, Sized}
 use Rattle.fit_arrays.specs.Arrays.{countersFit, signalsFit}
 use Rattle.fit_routines.specs.Routines.{slotFits}
 use Rattle.fitting.specs.Fitting.{sameCounts, fitsBook}
 use Rattle.fitting.specs.Fits.{In, BothLists, Fits}
 use Rattle.fitting.proofs.Tests.{not-less, equal, fails, and-then, both, or-else, by-order, each}
+use Rattle.fitting.proofs.Sizes.{is-sized}
 use Rattle.fitting.proofs.Lists.{LineRight, is-in, line-right}
 use Rattle.fitting.proofs.Routines.{RoutineRight, routine-right, is-blank}
 
@@ -91,7 +92,7 @@ module _ (s : List ℕ) (g : Game) where
       CountersRight (g .counters) (n .counters)) × SignalsRight (g .broadcast) (n .signals)) ×
       ((r : ℕ) → r < mostRoutines → SlotRight (n .routines) r (routineAt g r))
 
-  parts : (fitsBook s g ≡ true) ↔ Parts (g .counts)
+  parts : (fitsBook s g ≡ true) ↔ (Parts (g .counts) × Sized g)
   unfolding fitsBook
   parts =
       let n = g .counts in
@@ -99,11 +100,14 @@ module _ (s : List ℕ) (g : Game) where
       let lists = both listed (line-right (g .starting) (n .routines)) in
       let counters = both lists (counters-right (g .counters) (n .counters)) in
       let signals = both counters (signals-right (g .broadcast) (n .signals)) in
+      let routines =
       and-then signals (λ h. each mostRoutines (slotFits s g) (λ r l. slot-right (h .0 .0 .0 .1 .short) (h .0 .0 .1 .short) r))
+      in
+      both routines (is-sized g)
 
   -- over the book's numbers, the parts are the clauses
-  pub parts-fit : CountsInRange s → Parts (countsOf s) → Fits s g
-  parts-fit range (((((counts, listed), starting), counters), signals), routines) =
+  pub parts-fit : CountsInRange s → Parts (countsOf s) → Sized g → Fits s g
+  parts-fit range (((((counts, listed), starting), counters), signals), routines) sized =
       let one : (r : ℕ) → r < routinesOf s → OneRight r (routineAt g r) = λ r l. routines r (omega (arith, range .fewRoutines)) .0 l in
       record {
         numbers = counts;
@@ -122,6 +126,7 @@ module _ (s : List ℕ) (g : Game) where
         startStages = λ r v. one r (rw (v .2) at (starting .entries (v .0) (v .1))) .starting v;
         leftWhereBegun = λ r l. one r l .begun;
         leftElsewhere = λ r l. one r l .notBegun;
+        sized = sized;
       }
 
   module _ (f : Fits s g) where
@@ -154,6 +159,6 @@ module _ (s : List ℕ) (g : Game) where
 
 pub fits-decides : (s : List ℕ) → CountsInRange s → (g : Game) → (fitsBook s g ≡ true) ↔ Fits s g
 fits-decides s range g = (
-  λ h. let p = parts s g .0 h in parts-fit s g range (subst (Parts s g) (p .0 .0 .0 .0 .0) p),
-  λ f. parts s g .1 (subst⁻¹ (Parts s g) (f .numbers) (fit-parts s g f)),
+  λ h. let (p, sized) = parts s g .0 h in parts-fit s g range (subst (Parts s g) (p .0 .0 .0 .0 .0) p) sized,
+  λ f. parts s g .1 (subst⁻¹ (Parts s g) (f .numbers) (fit-parts s g f), f .sized),
 )

@@ -1,4 +1,5 @@
 pub mod Tests
+pub mod Sizes
 pub mod Lists
 pub mod Routines
 pub mod Decides

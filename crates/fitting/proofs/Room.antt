@@ -15,7 +15,7 @@ use Rattle.book.specs.Accepted.{CountsInRange}
 use Rattle.lines.specs.declared.Line.{Line}
 use Rattle.game.specs.declared.Game.{Game}
 use Rattle.lines.specs.Lines.{mostEntries, itemAt, isIn}
-use Rattle.game.specs.Game.{notStarted, routineAt, withStart, Sized}
+use Rattle.game.specs.Game.{notStarted, routineAt, withStart}
 use Rattle.fitting.specs.Fits.{In, Fits}
 use Rattle.fitting.proofs.Lists.{LineRight, is-in}
 use Rattle.fitting.proofs.Decides.{fit-lists}
@@ -67,14 +67,14 @@ room l n {routines} t below new =
     omega (arith, all)
 
 pub start-joins :
-    (s : List ℕ) (g : Game) (n : ℕ) → CountsInRange s → Sized g → Fits s g → n < routinesOf s →
+    (s : List ℕ) (g : Game) (n : ℕ) → CountsInRange s → Fits s g → n < routinesOf s →
     routineAt g n .stage ≡ notStarted → In (withStart (g .starting) n (routineAt g n .stage)) n
 unfolding withStart
-start-joins s g n range z f h stage =
+start-joins s g n range f h stage =
     let l = g .starting in
     let t = fit-lists s g f .1 in
     let known = is-in l (t .short) n in
     by-flag (isIn l n) (λ old. rw (old, and-false) (known .0 old)) (λ new.
     let space : l .len < mostEntries = omega (arith, room l n t h (λ v. clash (known .1 v) new), range .fewRoutines) in
     rw (eq-eqb _ _ stage, new, lt-ltb (l .len) mostEntries space)
-    (l .len, omega arith, getD-set-same (l .items) (l .len) n 0 (omega (arith, z .starting))))
+    (l .len, omega arith, getD-set-same (l .items) (l .len) n 0 (omega (arith, f .sized .starting))))

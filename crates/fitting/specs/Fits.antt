@@ -14,7 +14,7 @@ use Rattle.directory.specs.Directory.{stepCount, routineStep}
 use Rattle.lines.specs.declared.Line.{Line}
 use Rattle.game.specs.declared.Game.{Game}
 use Rattle.lines.specs.Lines.{mostEntries, itemAt}
-use Rattle.game.specs.Game.{notStarted, continuing, rested, stopped, blank, routineAt, counterAt, isBroadcast}
+use Rattle.game.specs.Game.{notStarted, continuing, rested, stopped, blank, routineAt, counterAt, isBroadcast, Sized}
 
 -- routine r is in a list
 abbrev pub In : Line → ℕ → Type 0
@@ -56,3 +56,5 @@ pub record Fits (s : List ℕ) (g : Game) : Type 0 where
   pub leftWhereBegun :
       (r : ℕ) → r < routinesOf s → routineAt g r .begun ≡ true → (n : ℕ) × Timed (stepHere s g r) n × (routineAt g r .left < n)
   pub leftElsewhere : (r : ℕ) → r < routinesOf s → routineAt g r .begun ≡ false → routineAt g r .left ≡ 0
+  -- and the arrays are as long as their types say, as in every game that a program holds
+  pub sized : Sized g

@@ -3,16 +3,27 @@ use Prim.Native.Nat.{ℕ}
 use mathlib.Core.Bool.{Bool, _&&_}
 use mathlib.Core.List.{List}
 use lib.Dec.{eqb}
+use lib.ListN.{length}
 use Rattle.kinds.specs.declared.Counts.{Counts}
-use Rattle.layout.specs.Layout.{mostRoutines, countsOf}
+use Rattle.layout.specs.Layout.{mostRoutines, mostSignals, mostCounters, countsOf}
 use Rattle.game.specs.declared.Game.{Game}
 use Rattle.lines.specs.Below.{allBelow}
+use Rattle.lines.specs.Lines.{mostEntries}
 use Rattle.fit_arrays.specs.Arrays.{lineFits, countersFit, signalsFit}
 use Rattle.fit_routines.specs.Routines.{slotFits}
 
 -- "its numbers of routines, counters and signals are the book's"
 abbrev pub sameCounts : Counts → Counts → Bool
 sameCounts a b = eqb (a .routines) (b .routines) && eqb (a .counters) (b .counters) && eqb (a .signals) (b .signals)
+
+-- the arrays are as long as their types say: of a game that a program holds there is nothing to test here
+unfoldable pub isSized : Game → Bool
+isSized g =
+    eqb (length (g .routines)) mostRoutines
+    && eqb (length (g .counters)) mostCounters
+    && eqb (length (g .listed .items)) mostEntries
+    && eqb (length (g .starting .items)) mostEntries
+    && eqb (length (g .broadcast)) mostSignals
 
 -- "A game fits a book if"
 unfoldable pub fitsBook : List ℕ → Game → Bool
@@ -24,3 +35,4 @@ fitsBook s g =
     && countersFit (g .counters) (counts .counters)
     && signalsFit (g .broadcast) (counts .signals)
     && allBelow mostRoutines (slotFits s g)
+    && isSized g

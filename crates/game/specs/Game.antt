@@ -152,7 +152,7 @@ withCounter g c v =
 abbrev pub withRoutine : Game → ℕ → Routine → Game
 withRoutine g r x = withRoutines g (set (g .routines) r x)
 
--- the arrays are as long as their types say, as in every game that a program holds; most laws on orders and rounds ask for it
+-- the arrays are as long as their types say, as in every game that a program holds
 pub record Sized (g : Game) : Type 0 where
   pub routines : length (g .routines) ≡ mostRoutines
   pub counters : length (g .counters) ≡ mostCounters

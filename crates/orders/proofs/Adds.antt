@@ -8,7 +8,7 @@ use mathlib.Core.Logic.{_⊎_, inl, inr, ⊎-elim}
 use lib.ListN.{getD, set}
 use Rattle.game.specs.declared.Routine.{Routine}
 use Rattle.game.specs.declared.Game.{Game}
-use Rattle.game.specs.Game.{notStarted, blank, routineAt, withStarting, withRoutine, Sized}
+use Rattle.game.specs.Game.{notStarted, blank, routineAt, withStarting, withRoutine}
 use Rattle.lines.specs.Lines.{isIn}
 use Rattle.fitting.specs.Fits.{In, Fits}
 use Rattle.fitting.proofs.Lists.{is-in}
@@ -29,7 +29,7 @@ flag-adds flag l n y d e =
       only = λ m. entry-set (λ x. flag x ≡ true → (flag (getD l m d) ≡ true) ⊎ (m ≡ n)) l n y d m (λ at h. inr at) inl;
     }
 
-module _ (g : Game) (z : Sized g) where
+module _ {s : List ℕ} {g : Game} (f : Fits s g) where
   routine-adds :
       (flag : Routine → Bool) (n : ℕ) (x : Routine) → flag x ≡ true →
       OnlyAdds n (λ m. flag (routineAt g m) ≡ true) (λ m. flag (routineAt (withRoutine g n x) m) ≡ true)
@@ -38,18 +38,19 @@ module _ (g : Game) (z : Sized g) where
   obeyed-adds : (kind n : ℕ) → OnlyAdds n (Joined kind g) (Joined kind (obeyed g kind n))
   unfolding obeyed Joined
   obeyed-adds zero n = flag-adds (λ b. b) (g .broadcast) n true false refl
-  obeyed-adds (suc zero) n = start-adds (g .starting) n (z .starting) (routineAt g n .stage)
+  obeyed-adds (suc zero) n = start-adds (g .starting) n (f .sized .starting) (routineAt g n .stage)
   obeyed-adds (suc (suc zero)) n = routine-adds (λ x. x .stopping) n _ refl
   obeyed-adds (suc (suc (suc zero))) n = routine-adds (λ x. x .suspending) n _ refl
   obeyed-adds (suc (suc (suc (suc zero)))) n = routine-adds (λ x. x .resuming) n _ refl
   obeyed-adds (suc (suc (suc (suc (suc kind))))) n = nothing-added
 
 -- one law for all kinds, after a refusal too
-pub order-adds : (s : List ℕ) (g : Game) (kind n : ℕ) → Sized g → OnlyAdds n (Joined kind g) (Joined kind (ordered s g kind n .game))
+pub order-adds : (s : List ℕ) (g : Game) (kind n : ℕ) → OnlyAdds n (Joined kind g) (Joined kind (ordered s g kind n .game))
 unfolding ordered
-order-adds s g kind n z =
+order-adds s g kind n =
     let P : Game → Type 0 = λ h. OnlyAdds n (Joined kind g) (Joined kind h) in
-    game-either (orderVerdict s g kind n) (obeyed g kind n) g P (λ e. obeyed-adds g z kind n) nothing-added
+    game-either (orderVerdict s g kind n) (obeyed g kind n) g P
+    (λ e. obeyed-adds (told-right (order-tells s g kind n) e .1) kind n) nothing-added
 
 -- "A start of a routine that isn't in stage 0, or is already to start, adds nothing."
 module _ (s : List ℕ) (g : Game) (n : ℕ) where

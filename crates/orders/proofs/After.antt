@@ -7,15 +7,14 @@ use native.Mathlib.Decide.{ℕ-discrete}
 use borrow.Author.Tests.{eq-eqb}
 use Rattle.verdicts.specs.Verdicts.{accepted}
 use Rattle.game.specs.declared.Game.{Game}
-use Rattle.game.specs.Game.{Sized}
 use Rattle.fitting.specs.Fitting.{fitsBook}
 use Rattle.fitting.proofs.Decides.{fits-decides}
 use Rattle.setup.specs.declared.Outcome.{Outcome}
 use Rattle.setup.specs.SetUp.{GivesFitting}
 use Rattle.orders.specs.Orders.{orderVerdict, obeyed, ordered}
 use Rattle.orders.specs.Tells.{OrderTells}
-use Rattle.setup.proofs.Games.{game-lent, game-either}
-use Rattle.orders.proofs.Obeyed.{obeyed-fits, obeyed-sized, obeyed-again}
+use Rattle.setup.proofs.Games.{game-lent}
+use Rattle.orders.proofs.Obeyed.{obeyed-fits, obeyed-again}
 use Rattle.orders.proofs.Telling.{Right, told-right, order-told-only, order-tells}
 
 -- the answer of an order that is accepted
@@ -26,16 +25,12 @@ right-given : (s : List ℕ) (g : Game) (kind n : ℕ) → Right s g kind n → 
 unfolding ordered
 right-given s g kind n (a, f, h) = rw (order-told-only (OrderTells.nothing a f h))
 
-module _ (s : List ℕ) (g : Game) (kind n : ℕ) (z : Sized g) where
-  pub order-sized : Sized (ordered s g kind n .game)
-  unfolding ordered
-  order-sized = game-either (orderVerdict s g kind n) (obeyed g kind n) g Sized (λ e. obeyed-sized g z kind n) z
-
+module _ (s : List ℕ) (g : Game) (kind n : ℕ) where
   pub order-fits : GivesFitting s (ordered s g kind n)
   unfolding ordered
   order-fits e =
       let (a, f, h) = told-right (order-tells s g kind n) (ap (λ v. v .number) e) in
-      rw e (obeyed-fits s g f kind n z h)
+      rw e (obeyed-fits s g f kind n h)
 
   -- whether the game fits is as it was, after a refusal too
   pub order-keeps : fitsBook s (ordered s g kind n .game) ≡ fitsBook s g
@@ -45,7 +40,7 @@ module _ (s : List ℕ) (g : Game) (kind n : ℕ) (z : Sized g) where
         | yes e ↦
             let (a, f, h) = told-right (order-tells s g kind n) e in
             let fitting = fits-decides s (a .laid .counts) in
-            rw (eq-eqb _ _ e) (fitting (obeyed g kind n) .1 (obeyed-fits s g f kind n z h) ∙ sym (fitting g .1 f))
+            rw (eq-eqb _ _ e) (fitting (obeyed g kind n) .1 (obeyed-fits s g f kind n h) ∙ sym (fitting g .1 f))
         | no m ↦ ap (fitsBook s) (game-lent (orderVerdict s g kind n) (obeyed g kind n) g m)
       ]
 
@@ -56,7 +51,7 @@ module _ (s : List ℕ) (g : Game) (kind n : ℕ) (z : Sized g) where
         | yes e ↦
             let (a, f, h) = told-right (order-tells s g kind n) e in
             let first = right-given s g kind n (a, f, h) in
-            let second = right-given s (obeyed g kind n) kind n (a, obeyed-fits s g f kind n z h, h) in
-            ap (λ o. ordered s (o .game) kind n) first ∙ second ∙ ap given (obeyed-again g z kind n) ∙ sym first
+            let second = right-given s (obeyed g kind n) kind n (a, obeyed-fits s g f kind n h, h) in
+            ap (λ o. ordered s (o .game) kind n) first ∙ second ∙ ap given (obeyed-again s g f kind n) ∙ sym first
         | no m ↦ ap (λ x. ordered s x kind n) (game-lent (orderVerdict s g kind n) (obeyed g kind n) g m)
       ]

@@ -10,7 +10,7 @@ use Rattle.game.specs.declared.Routine.{Routine}
 use Rattle.lines.specs.declared.Line.{Line}
 use Rattle.game.specs.declared.Game.{Game}
 use Rattle.lines.specs.Lines.{mostEntries}
-use Rattle.game.specs.Game.{notStarted, blank, routineAt, Sized}
+use Rattle.game.specs.Game.{notStarted, blank, routineAt}
 use Rattle.fitting.specs.Fits.{In, Fits}
 use Rattle.fitting.proofs.Lists.{LineRight}
 use Rattle.fitting.proofs.Decides.{fit-lists}
@@ -26,8 +26,9 @@ changed g routines starting broadcast =
       broadcast = broadcast;
     }
 
--- routines that differ in their flags only, and not beyond R
+-- as many routines, that differ in their flags only, and not beyond R
 pub record SameButFlags (s : List ℕ) (g : Game) (routines : List Routine) : Type 0 where
+  pub sized : length routines ≡ mostRoutines
   pub beyond : (r : ℕ) → routinesOf s ≤ r → r < mostRoutines → getD routines r blank ≡ blank
   pub stage : (r : ℕ) → getD routines r blank .stage ≡ routineAt g r .stage
   pub place : (r : ℕ) → getD routines r blank .place ≡ routineAt g r .place
@@ -36,29 +37,43 @@ pub record SameButFlags (s : List ℕ) (g : Game) (routines : List Routine) : Ty
 
 -- what the clauses ask of those to start
 pub record Starts (s : List ℕ) (g : Game) (l : Line) : Type 0 where
+  pub sized : length (l .items) ≡ mostEntries
   pub line : LineRight l (routinesOf s)
   pub starting : (r : ℕ) → In l r → routineAt g r .stage ≡ notStarted
 
 -- and of the signals to broadcast
-abbrev pub Signals : List ℕ → List Bool → Type 0
-Signals s flags = (e : ℕ) → signalsOf s ≤ e → e < mostSignals → getD flags e false ≡ false
+pub record Signals (s : List ℕ) (flags : List Bool) : Type 0 where
+  pub sized : length flags ≡ mostSignals
+  pub beyond : (e : ℕ) → signalsOf s ≤ e → e < mostSignals → getD flags e false ≡ false
 
 module _ {s : List ℕ} {g : Game} (f : Fits s g) where
   pub same-flags : SameButFlags s g (g .routines)
-  same-flags = record { beyond = f .routinesBeyond; stage = λ r. refl; place = λ r. refl; left = λ r. refl; begun = λ r. refl }
+  same-flags =
+      record {
+        sized = f .sized .routines;
+        beyond = f .routinesBeyond;
+        stage = λ r. refl;
+        place = λ r. refl;
+        left = λ r. refl;
+        begun = λ r. refl;
+      }
 
   pub same-starts : Starts s g (g .starting)
-  same-starts = record { line = fit-lists s g f .1; starting = f .startStages }
+  same-starts = record { sized = f .sized .starting; line = fit-lists s g f .1; starting = f .startStages }
+
+  pub same-signals : Signals s (g .broadcast)
+  same-signals = record { sized = f .sized .broadcast; beyond = f .signalsBeyond }
 
   pub changed-fits :
       {routines : List Routine} {l : Line} {flags : List Bool} →
       SameButFlags s g routines → Starts s g l → Signals s flags → Fits s (changed g routines l flags)
   changed-fits x t b =
+      let z = f .sized in
       record {
         numbers = f .numbers;
         routinesBeyond = x .beyond;
         countersBeyond = f .countersBeyond;
-        signalsBeyond = b;
+        signalsBeyond = b .beyond;
         entriesBeyond = (f .entriesBeyond .0, t .line .beyond);
         stagesInRange = λ r. rw (x .stage r) (f .stagesInRange r);
         placesInRange = λ r. rw (x .place r) (f .placesInRange r);
@@ -71,10 +86,5 @@ module _ {s : List ℕ} {g : Game} (f : Fits s g) where
         startStages = λ r. rw (x .stage r) (t .starting r);
         leftWhereBegun = λ r. rw (x .begun r, x .place r, x .left r) (f .leftWhereBegun r);
         leftElsewhere = λ r. rw (x .begun r, x .left r) (f .leftElsewhere r);
+        sized = record { routines = x .sized; counters = z .counters; listed = z .listed; starting = t .sized; broadcast = b .sized };
       }
-
-pub changed-sized :
-    {g : Game} {routines : List Routine} {l : Line} {flags : List Bool} →
-    Sized g → length routines ≡ mostRoutines → length (l .items) ≡ mostEntries → length flags ≡ mostSignals →
-    Sized (changed g routines l flags)
-changed-sized z x t b = record { routines = x; counters = z .counters; listed = z .listed; starting = t; broadcast = b }

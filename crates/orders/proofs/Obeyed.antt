@@ -1,5 +1,5 @@
--- The game after an order that is obeyed fits the book if the one before it did, its arrays are as long as they were,
--- and obeying the order again changes nothing. By kind; a routine that is replaced differs in its flags only.
+-- The game after an order that is obeyed fits the book if the one before it did, and obeying the order again changes nothing.
+-- By kind; a routine that is replaced differs in its flags only.
 use Prim.Native.Nat.{ℕ, zero, suc, _<_}
 use mathlib.Core.Path.{_≡_, refl, _∙_, ap}
 use mathlib.Core.Bool.{Bool, true, false}
@@ -11,12 +11,12 @@ use lib.Seq.{getD-set-same, getD-set-other, set-out, set-set}
 use Rattle.layout.specs.Layout.{routinesOf, countsOf}
 use Rattle.game.specs.declared.Routine.{Routine}
 use Rattle.game.specs.declared.Game.{Game}
-use Rattle.game.specs.Game.{blank, routineAt, withFlags, withStop, withSuspend, withResume, Sized}
+use Rattle.game.specs.Game.{blank, routineAt, withFlags, withStop, withSuspend, withResume}
 use Rattle.game.specs.Game.{withRoutines, withRoutine, withStarting, withBroadcast}
 use Rattle.fitting.specs.Fits.{Fits}
 use Rattle.orders.specs.Orders.{orderCount, obeyed}
-use Rattle.orders.proofs.Changed.{same-flags, same-starts, changed-fits, changed-sized}
-use Rattle.orders.proofs.Starts.{starts-start, start-sized, start-again}
+use Rattle.orders.proofs.Changed.{same-flags, same-starts, same-signals, changed-fits}
+use Rattle.orders.proofs.Starts.{starts-start, start-again}
 use Rattle.orders.proofs.Stores.{same-set}
 
 module _ {A : Type 0} (l : List A) (n : ℕ) (d : A) where
@@ -39,49 +39,39 @@ module _ (s : List ℕ) (g : Game) (f : Fits s g) where
       let y = withFlags (routineAt g n) stop suspend resume in
       changed-fits f
       (record {
+        sized = length-set l n y ∙ f .sized .routines;
         beyond = λ r a b. getD-set-other l n r y blank (λ e. omega arith) ∙ f .routinesBeyond r a b;
         stage = same-set (λ x. x .stage) l n y blank refl;
         place = same-set (λ x. x .place) l n y blank refl;
         left = same-set (λ x. x .left) l n y blank refl;
         begun = same-set (λ x. x .begun) l n y blank refl;
       })
-      (same-starts f) (f .signalsBeyond)
+      (same-starts f) (same-signals f)
 
-  pub obeyed-fits : (kind n : ℕ) → Sized g → n < orderCount (countsOf s) kind → Fits s (obeyed g kind n)
+  pub obeyed-fits : (kind n : ℕ) → n < orderCount (countsOf s) kind → Fits s (obeyed g kind n)
   unfolding obeyed
-  obeyed-fits zero n z h =
+  obeyed-fits zero n h =
       changed-fits f (same-flags f) (same-starts f)
-      (λ e a b. getD-set-other (g .broadcast) n e true false (λ i. omega arith) ∙ f .signalsBeyond e a b)
-  obeyed-fits (suc zero) n z h =
-      changed-fits f (same-flags f) (starts-start (g .starting) n (z .starting) (same-starts f) h) (f .signalsBeyond)
-  obeyed-fits (suc (suc zero)) n z h = flags-fit n _ _ _ h
-  obeyed-fits (suc (suc (suc zero))) n z h = flags-fit n _ _ _ h
-  obeyed-fits (suc (suc (suc (suc zero)))) n z h = flags-fit n _ _ _ h
-  obeyed-fits (suc (suc (suc (suc (suc kind))))) n z h = f
-
-module _ (g : Game) (z : Sized g) where
-  routine-sized : (n : ℕ) (x : Routine) → Sized (withRoutine g n x)
-  routine-sized n x = changed-sized z (length-set (g .routines) n x ∙ z .routines) (z .starting) (z .broadcast)
-
-  pub obeyed-sized : (kind n : ℕ) → Sized (obeyed g kind n)
-  unfolding obeyed
-  obeyed-sized zero n = changed-sized z (z .routines) (z .starting) (length-set (g .broadcast) n true ∙ z .broadcast)
-  obeyed-sized (suc zero) n =
-      changed-sized z (z .routines) (start-sized (g .starting) n (routineAt g n .stage) (z .starting)) (z .broadcast)
-  obeyed-sized (suc (suc zero)) n = routine-sized n _
-  obeyed-sized (suc (suc (suc zero))) n = routine-sized n _
-  obeyed-sized (suc (suc (suc (suc zero)))) n = routine-sized n _
-  obeyed-sized (suc (suc (suc (suc (suc kind))))) n = z
+      (record {
+        sized = length-set (g .broadcast) n true ∙ f .sized .broadcast;
+        beyond = λ e a b. getD-set-other (g .broadcast) n e true false (λ i. omega arith) ∙ f .signalsBeyond e a b;
+      })
+  obeyed-fits (suc zero) n h =
+      changed-fits f (same-flags f) (starts-start (g .starting) n (f .sized .starting) (same-starts f) h) (same-signals f)
+  obeyed-fits (suc (suc zero)) n h = flags-fit n _ _ _ h
+  obeyed-fits (suc (suc (suc zero))) n h = flags-fit n _ _ _ h
+  obeyed-fits (suc (suc (suc (suc zero)))) n h = flags-fit n _ _ _ h
+  obeyed-fits (suc (suc (suc (suc (suc kind))))) n h = f
 
   routine-again :
-      (f : Routine → Routine) → ((x : Routine) → f (f x) ≡ f x) → (n : ℕ) →
-      (let h = withRoutine g n (f (routineAt g n)) in withRoutine h n (f (routineAt h n)) ≡ h)
-  routine-again f twice n = ap (withRoutines g) (set-again (g .routines) n blank f twice)
+      (change : Routine → Routine) → ((x : Routine) → change (change x) ≡ change x) → (n : ℕ) →
+      (let h = withRoutine g n (change (routineAt g n)) in withRoutine h n (change (routineAt h n)) ≡ h)
+  routine-again change twice n = ap (withRoutines g) (set-again (g .routines) n blank change twice)
 
   pub obeyed-again : (kind n : ℕ) → obeyed (obeyed g kind n) kind n ≡ obeyed g kind n
   unfolding obeyed
   obeyed-again zero n = ap (withBroadcast g) (set-set (g .broadcast) n true true)
-  obeyed-again (suc zero) n = ap (withStarting g) (start-again (g .starting) n (z .starting) (routineAt g n .stage))
+  obeyed-again (suc zero) n = ap (withStarting g) (start-again (g .starting) n (f .sized .starting) (routineAt g n .stage))
   obeyed-again (suc (suc zero)) n = routine-again withStop (λ x. refl) n
   obeyed-again (suc (suc (suc zero))) n = routine-again withSuspend (λ x. refl) n
   obeyed-again (suc (suc (suc (suc zero)))) n = routine-again withResume (λ x. refl) n

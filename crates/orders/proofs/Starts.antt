@@ -47,9 +47,6 @@ module _ (l : Line) (r stage : ℕ) where
   start-nothing (inl n) = rw (ne-eqb stage notStarted n)
   start-nothing (inr e) = rw (e, and-false)
 
-  pub start-sized : length (l .items) ≡ mostEntries → length (withStart l r stage .items) ≡ mostEntries
-  start-sized z = start-either (λ m. length (m .items) ≡ mostEntries) (λ e. z) (λ room e new. length-set (l .items) (l .len) r ∙ z)
-
 module _ (l : Line) (r : ℕ) (z : length (l .items) ≡ mostEntries) where
   module _ (room : l .len < mostEntries) where
     inside : l .len < length (l .items)
@@ -85,6 +82,7 @@ module _ (l : Line) (r : ℕ) (z : length (l .items) ≡ mostEntries) where
   starts-start {s} {g} t below =
       start-either l r (routineAt g r .stage) (Starts s g) (λ e. t) (λ room stage new.
       record {
+        sized = length-set (l .items) (l .len) r ∙ z;
         line = joined-right room (t .line) below new;
         starting =
             λ k (i, h, e).

@@ -19,7 +19,7 @@ use Rattle.lines.specs.Lines.{isIn}
 use Rattle.game.specs.Game.{continuing, ended, withRoutine, withStart}
 use Rattle.fit_arrays.specs.Arrays.{entryFits, lineFits, countersFit, signalsFit}
 use Rattle.fit_routines.specs.Routines.{routineFits, slotFits}
-use Rattle.fitting.specs.Fitting.{fitsBook}
+use Rattle.fitting.specs.Fitting.{isSized, fitsBook}
 use Rattle.setup.specs.SetUp.{newGame}
 use Rattle.orders.specs.Orders.{orderVerdict, obeyed, ordered}
 
@@ -67,7 +67,7 @@ examples =
     ∷ []
 
 pub as-told : map (λ e. ordered t3 (e .game) (e .kind) (e .number) .verdict) examples ≡ map (λ e. e .tells) examples
-unfolding ordered orderVerdict newGame fitsBook routineFits slotFits entryFits lineFits countersFit signalsFit isIn allBelow anyBelow
+unfolding ordered orderVerdict newGame isSized fitsBook routineFits slotFits entryFits lineFits countersFit signalsFit isIn allBelow anyBelow
     bookVerdict layoutVerdict directoryVerdict stepsVerdict nestingVerdict pausingVerdict routineWalk routinePart routineOf stepOf
     blockBy viewAt stepAt decoded rowOf stepsBefore firstRefusal
 as-told = refl

@@ -20,7 +20,7 @@ use Rattle.lines.specs.Lines.{empty, isIn, pushed, entriesOf, appended}
 use Rattle.game.specs.Game.{rested, stopped, blank, blankGame, withStart}
 use Rattle.fit_arrays.specs.Arrays.{entryFits, lineFits, countersFit, signalsFit}
 use Rattle.fit_routines.specs.Routines.{routineFits, slotFits}
-use Rattle.fitting.specs.Fitting.{fitsBook}
+use Rattle.fitting.specs.Fitting.{isSized, fitsBook}
 use Rattle.setup.specs.SetUp.{newGame, setUp}
 use Rattle.round.specs.State.{numbersWith, isEndThere, isThere}
 use Rattle.round.specs.History.{countBelow}
@@ -365,7 +365,7 @@ pub as-stated :
     (map played setPlays ≡ setPlays) × (afterRounds 4 (t10 .book) ≡ waiting) × (nextRound (t10 .book) waiting ≡ waitsOn)
 unfolding playedFrom answer roundVerdict written marksIn countBelow round instant pass turn allDone ticks effectOn tick tickOf waitsFor
     fromEnd openingBefore pastPartner atStart each kept appended isThere isEndThere numbersWith setUp newGame blankGame withStart
-    fitsBook routineFits slotFits entryFits lineFits countersFit signalsFit isIn allBelow anyBelow bookVerdict layoutVerdict
+    isSized fitsBook routineFits slotFits entryFits lineFits countersFit signalsFit isIn allBelow anyBelow bookVerdict layoutVerdict
     directoryVerdict stepsVerdict nestingVerdict pausingVerdict routineWalk routinePart routineOf stepOf blockBy partnerOf viewAt
     stepAt decoded rowOf stepsBefore firstRefusal
 as-stated = (refl, refl, refl)

@@ -13,7 +13,7 @@ use Rattle.book.specs.Accepted.{CountsInRange}
 use Rattle.game.specs.declared.Routine.{Routine}
 use Rattle.game.specs.declared.Game.{Game}
 use Rattle.lines.specs.Lines.{mostEntries, entriesOf, appended}
-use Rattle.game.specs.Game.{blank, routineAt, Sized}
+use Rattle.game.specs.Game.{blank, routineAt}
 use Rattle.fitting.specs.Fits.{Fits}
 use Rattle.orders.proofs.Stores.{entry-set, same-at}
 use Rattle.round.specs.Actions.{kept, each, positionOf, inStage1, inStage4, getsStopped, staysListed, withoutOrders, atStart}
@@ -126,12 +126,12 @@ module _ (g : Game) where
   pub at-start-positions : (r : ℕ) → positionOf (routineAt (atStart g .game) r) ≡ positionOf (routineAt g r)
   at-start-positions = same-at positionOf (atStart g .game .routines) (g .routines) blank positions-same
 
-module _ (book : List ℕ) (g : Game) (range : CountsInRange book) (z : Sized g) (f : Fits book g) where
+module _ (book : List ℕ) (g : Game) (range : CountsInRange book) (f : Fits book g) where
   pub kept-below : (test : ℕ → Bool) → All (λ r. r < routinesOf book) (kept test (joinedOf g))
-  kept-below test = all-kept (λ r. r < routinesOf book) test (joinedOf g) (joined-below book g range z f)
+  kept-below test = all-kept (λ r. r < routinesOf book) test (joinedOf g) (joined-below book g range f)
 
   pub staying-short : length (staying g) ≤ mostEntries
-  staying-short = omega (arith, kept-short (stays g) (joinedOf g), joined-short book g range z f)
+  staying-short = omega (arith, kept-short (stays g) (joinedOf g), joined-short book g range f)
 
   pub at-start-entries : entriesOf (atStart g .game .listed) ≡ staying g
   unfolding atStart

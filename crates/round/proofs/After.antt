@@ -10,7 +10,7 @@ use Rattle.verdicts.specs.Verdicts.{accepted}
 use Rattle.layout.specs.Layout.{routinesOf}
 use Rattle.book.specs.Accepted.{Accepted}
 use Rattle.game.specs.declared.Game.{Game}
-use Rattle.game.specs.Game.{routineAt, Sized}
+use Rattle.game.specs.Game.{routineAt}
 use Rattle.fitting.specs.Fits.{Fits}
 use Rattle.round.specs.State.{State, withMoves, Happening}
 use Rattle.round.specs.History.{Among}
@@ -67,9 +67,9 @@ module _ (book : List ℕ) (a : Accepted book) where
       instant-along Keeps (λ s. flags-keep s) keeps-both book (Sound book) (λ r. r < routinesOf book) (turn-sound book a) turn-keeps
       again-sound (λ s. flags-keep s)
 
-  module _ (g : Game) (z : Sized g) (f : Fits book g) where
+  module _ (g : Game) (f : Fits book g) where
     below : All (λ r. r < routinesOf book) (listedIn g)
-    below = listed-below book g a z f
+    below = listed-below book g a f
 
     -- what holds of each turn of a listed routine in a sound state holds of a round
     pub round-along :
@@ -83,22 +83,19 @@ module _ (book : List ℕ) (a : Accepted book) where
         let L = listedIn g in
         let Below : ℕ → Type 0 = λ r. r < routinesOf book in
         instant-along Claim none both book (Sound book) (λ r. Below r × Among r L) (λ r s l. turn-sound book a r s (l .0)) turns
-        again-sound agains mostPasses L (all-among Below L below) (atStart g) (at-start-sound book g a z f) .1
+        again-sound agains mostPasses L (all-among Below L below) (atStart g) (at-start-sound book g a f) .1
 
     pub round-keeps : Sound book (back book g) × Kept (atStart g) (back book g)
     unfolding round
-    round-keeps = instant-keeps mostPasses (listedIn g) below (atStart g) (at-start-sound book g a z f)
+    round-keeps = instant-keeps mostPasses (listedIn g) below (atStart g) (at-start-sound book g a f)
 
     pub round-fits : Fits book (back book g .game)
     round-fits = round-keeps .0 .fits
 
-    pub round-sized : Sized (back book g .game)
-    round-sized = round-keeps .0 .sized
-
 -- the game of an accepted answer
 pub answer-fits :
-    (book : List ℕ) (g : Game) (buffer : List ℤ) → Sized g → answer book g buffer .verdict ≡ accepted →
-    Fits book (answer book g buffer .game) × Sized (answer book g buffer .game)
-answer-fits book g buffer z e =
+    (book : List ℕ) (g : Game) (buffer : List ℤ) → answer book g buffer .verdict ≡ accepted →
+    Fits book (answer book g buffer .game)
+answer-fits book g buffer e =
     let ((a, fits, space), same) = accepted-played book g buffer e in
-    rw same (round-fits book a g z fits, round-sized book a g z fits)
+    rw same (round-fits book a g fits)

@@ -9,7 +9,6 @@ use borrow.Author.Tests.{not-true}
 use Rattle.numbers.proofs.Tests.{clash}
 use Rattle.book.specs.Accepted.{Accepted}
 use Rattle.game.specs.declared.Game.{Game}
-use Rattle.game.specs.Game.{Sized}
 use Rattle.fitting.specs.Fits.{Fits}
 use Rattle.round.specs.State.{State}
 use Rattle.round.specs.Actions.{atStart}
@@ -22,17 +21,17 @@ use Rattle.round.proofs.Waiting.{pass-stays}
 use Rattle.round.proofs.Closing.{closing-pass}
 use Rattle.round.proofs.Lawful.{turn-laws}
 
-module _ (book : List ℕ) (a : Accepted book) (g : Game) (z : Sized g) (f : Fits book g) where
+module _ (book : List ℕ) (a : Accepted book) (g : Game) (f : Fits book g) where
   begins-sound : {s : State} → Begins book g s → Sound book s
-  begins-sound Begins.first = at-start-sound book g a z f
+  begins-sound Begins.first = at-start-sound book g a f
   begins-sound (Begins.next {s} b h) =
-      let below = listed-below book g a z f in
+      let below = listed-below book g a f in
       again-sound _ (pass-stays (turn-laws book a) (listedIn g) below s (begins-sound b))
 
   pub closes : {s : State} → Begins book g s → s .eoi ≡ true → Closes book g s
   unfolding atStart
   closes Begins.first e = clash e refl
   closes (Begins.next {s} b h) e =
-      let below = listed-below book g a z f in
+      let below = listed-below book g a f in
       let (none, done) = closing-pass (turn-laws book a) (listedIn g) below s (begins-sound b) (not-true _ e) in
       record { noSignal = omega arith; noEnd = omega arith; done = done }

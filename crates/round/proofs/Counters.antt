@@ -18,7 +18,6 @@ use Rattle.layout.specs.Layout.{countsOf}
 use Rattle.directory.specs.Directory.{routineSteps}
 use Rattle.book.specs.Accepted.{Accepted}
 use Rattle.game.specs.declared.Game.{Game}
-use Rattle.game.specs.Game.{Sized}
 use Rattle.fitting.specs.Fits.{Fits}
 use Rattle.numbers.proofs.Tests.{clash, by-test}
 use Rattle.round.specs.declared.Position.{Position}
@@ -169,7 +168,7 @@ module _ (book : List ℕ) where
       (λ h. end-keeps (Makes s (t .told)) (t .ending) r _ (λ k. k) (ticks-make r _ _ s))
 
   pub contents-made :
-      (a : Accepted book) (g : Game) → Sized g → Fits book g →
+      (a : Accepted book) (g : Game) → Fits book g →
       contentsOf (round book g .played .state) ≡ contentsAfter book (historyOf book g) (g .counters, [])
   unfolding atStart
-  contents-made a g z f = round-always Makes makes-same makes-both book turn-makes makes-same g (none-lost book a g z f) .1
+  contents-made a g f = round-always Makes makes-same makes-both book turn-makes makes-same g (none-lost book a g f) .1

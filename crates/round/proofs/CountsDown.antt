@@ -17,7 +17,7 @@ use Rattle.directory.specs.Directory.{routineSteps}
 use Rattle.book.specs.Accepted.{Accepted}
 use Rattle.game.specs.declared.Routine.{Routine}
 use Rattle.game.specs.declared.Game.{Game}
-use Rattle.game.specs.Game.{rested, routineAt, Sized}
+use Rattle.game.specs.Game.{rested, routineAt}
 use Rattle.fitting.specs.Fits.{Fits}
 use Rattle.numbers.proofs.Tests.{clash, not-true-false, by-flag}
 use Rattle.round.specs.declared.Ending.{Ending}
@@ -80,7 +80,7 @@ was-missing s u keeps (waitFor {e}) m = not-true-false _ (λ h. clash (keeps (si
 was-missing s u keeps (joinFor {r}) m = not-true-false _ (λ h. clash (keeps (end r) h) m)
 
 module _
-    (book : List ℕ) (a : Accepted book) (g : Game) (z : Sized g) (f : Fits book g) (r : ℕ) (inside : Among r (listedIn g))
+    (book : List ℕ) (a : Accepted book) (g : Game) (f : Fits book g) (r : ℕ) (inside : Among r (listedIn g))
     (unsuspended : routineAt (atStart g .game) r .suspended ≡ false)
   where
     abbrev steps : List ℕ
@@ -156,7 +156,7 @@ module _
         counted-down : hasThing (back book g) timed ≡ false → OneLess (back book g)
         counted-down none =
             let all =
-            round-of-one book a g z f r Claim
+            round-of-one book a g f r Claim
             (λ s u v b c first second m.
             let (between, two) = second m in
             let (start, one) = first between in
@@ -166,23 +166,23 @@ module _
               ⊎-elim (λ due. inl (due-standing g r s u standing due)) (λ h. inr (standing .stage ∙ h .0, standing .position ∙ h .1)),
             ))
             own in
-            ⊎-elim (λ due. absurd (due-last book a g z f r inside unsuspended due)) (λ h. h)
-            (all none .1 (inl (due-first book a g z f r inside unsuspended)))
+            ⊎-elim (λ due. absurd (due-last book a g f r inside unsuspended due)) (λ h. h)
+            (all none .1 (inl (due-first book a g f r inside unsuspended)))
 
       gone-past : (k ≡ 0) ⊎ (hasThing (back book g) timed ≡ true) → Completes r (x .place) (historyOf book g)
       gone-past h = elim (ℕ-discrete k 0) [
-        | yes zero ↦ told-then book a g z f r inside unsuspended _ (λ s due. goes-here s due (inl zero))
+        | yes zero ↦ told-then book a g f r inside unsuspended _ (λ s due. goes-here s due (inl zero))
         | no some ↦
             elim h [
               | inl zero ↦ absurd (some zero)
               | inr found ↦
                   let (t, asks, there) = asked x (back book g) timed (omega arith) found in
-                  thing-past book a g z f r inside unsuspended t (subst (λ w. Asks x w t) (sym here) asks) there
+                  thing-past book a g f r inside unsuspended t (subst (λ w. Asks x w t) (sym here) asks) there
             ]
       ]
 
       timed-round : TimedRound book g r x timed
       timed-round = record { goesPast = gone-past; countsDown = counted-down }
 
-pub counts-down : (book : List ℕ) → Accepted book → (g : Game) → Sized g → Fits book g → CountsDown book g
-counts-down book a g z f r inside unsuspended n timed = timed-round book a g z f r inside unsuspended timed refl
+pub counts-down : (book : List ℕ) → Accepted book → (g : Game) → Fits book g → CountsDown book g
+counts-down book a g f r inside unsuspended n timed = timed-round book a g f r inside unsuspended timed refl

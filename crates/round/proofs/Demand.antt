@@ -16,7 +16,7 @@ use Rattle.verdicts.specs.Verdicts.{accepted}
 use Rattle.layout.specs.Layout.{routinesOf}
 use Rattle.book.specs.Accepted.{Accepted}
 use Rattle.game.specs.declared.Game.{Game}
-use Rattle.game.specs.Game.{continuing, rested, ended, notStarted, stopped, routineAt, Sized}
+use Rattle.game.specs.Game.{continuing, rested, ended, notStarted, stopped, routineAt}
 use Rattle.fitting.specs.Fits.{Fits, In}
 use Rattle.round.specs.State.{State}
 use Rattle.round.specs.History.{Among}
@@ -44,30 +44,30 @@ rests-or-ends stage l on out =
     let high : stage ≡ stopped → ⊥ = λ e. out (inr e) in
     elim (ℕ-discrete stage rested) [ yes e ↦ inl e | no n ↦ inr (omega arith) ]
 
-module _ (book : List ℕ) (a : Accepted book) (g : Game) (z : Sized g) (f : Fits book g) where
+module _ (book : List ℕ) (a : Accepted book) (g : Game) (f : Fits book g) where
   abbrev last : State
   last = round book g .played .state
 
   start-sound : Sound book (atStart g)
-  start-sound = at-start-sound book g a z f
+  start-sound = at-start-sound book g a f
 
   fair : FairRound (listedIn g) (round book g)
   unfolding round atStart
   fair =
-      fair-round (turn-laws book a) (listedIn g) (listed-below book g a z f) mostPasses (atStart g) start-sound refl refl
-      (enough book a g z f .passes)
+      fair-round (turn-laws book a) (listedIn g) (listed-below book g a f) mostPasses (atStart g) start-sound refl refl
+      (enough book a g f .passes)
 
   -- no more numbers are given than are kept, so every one that is told is there
   pub none-lost : last .tooMany ≡ false
-  none-lost = too-many book g ∙ le-ltb _ _ (completed-once book a g z f .numbers)
+  none-lost = too-many book g ∙ le-ltb _ _ (completed-once book a g f .numbers)
 
   rested-or-ended :
       (r : ℕ) → Among r (listedIn g) → routineAt (atStart g .game) r .suspended ≡ false →
       (routineAt (last .game) r .stage ≡ rested) ⊎ (routineAt (last .game) r .stage ≡ ended)
   rested-or-ended r i unsuspended =
-      let (sound, kept) = round-keeps book a g z f in
+      let (sound, kept) = round-keeps book a g f in
       let fits = sound .fits in
-      let (k, l, e) = among-listed book g a z f r i in
+      let (k, l, e) = among-listed book g a f r i in
       let lower : r < routinesOf book = subst (λ q. q < routinesOf book) e (start-sound .fits .entriesInRange .0 k l) in
       let here : In (last .game .listed) r = rw (kept .listed) (k, l, e) in
       let off = fair .noneGoing r i in
@@ -79,7 +79,7 @@ module _ (book : List ℕ) (a : Accepted book) (g : Game) (z : Sized g) (f : Fit
   demand-3 =
       record {
         fewPasses = omega (arith, fair .few);
-        fewSignals = completed-once book a g z f .signals;
+        fewSignals = completed-once book a g f .signals;
         restedOrEnded = rested-or-ended;
         caughtUp = fair .catchesUp none-lost;
       }
@@ -87,12 +87,12 @@ module _ (book : List ℕ) (a : Accepted book) (g : Game) (z : Sized g) (f : Fit
   -- "More than 1,024 numbers are given in one round." never applies: a buffer that is long enough is all that is left to ask
   pub round-accepted : (buffer : List ℤ) → spaceFor book ≤ length buffer → answer book g buffer .verdict ≡ accepted
   round-accepted buffer space =
-      answer-verdict book g buffer ∙ round-told-only (RoundTells.nothing a f space (completed-once book a g z f .numbers))
+      answer-verdict book g buffer ∙ round-told-only (RoundTells.nothing a f space (completed-once book a g f .numbers))
 
 -- the passes and the game of an accepted answer
 pub answer-demand-3 :
-    (book : List ℕ) (g : Game) (buffer : List ℤ) → Sized g → answer book g buffer .verdict ≡ accepted →
+    (book : List ℕ) (g : Game) (buffer : List ℤ) → answer book g buffer .verdict ≡ accepted →
     Demand3 book g (answer book g buffer .passes) (answer book g buffer .game)
-answer-demand-3 book g buffer z e =
+answer-demand-3 book g buffer e =
     let ((a, fits, space), same) = accepted-played book g buffer e in
-    rw same (demand-3 book a g z fits)
+    rw same (demand-3 book a g fits)

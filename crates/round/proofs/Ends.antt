@@ -17,7 +17,7 @@ use Rattle.layout.specs.Layout.{routinesOf}
 use Rattle.book.specs.Accepted.{Accepted}
 use Rattle.game.specs.declared.Routine.{Routine}
 use Rattle.game.specs.declared.Game.{Game}
-use Rattle.game.specs.Game.{continuing, routineAt, Sized}
+use Rattle.game.specs.Game.{continuing, routineAt}
 use Rattle.game.specs.Game as stage
 use Rattle.fitting.specs.Fits.{Fits}
 use Rattle.round.specs.declared.Ending.{Ending}
@@ -104,9 +104,9 @@ is-end-of q (completed r p) n = clash n refl
 abbrev counted : (Happening → Bool) → State → ℕ → ℕ
 counted test s r = one (test (ended r) && isEnded s r)
 
-module _ (book : List ℕ) (a : Accepted book) (g : Game) (z : Sized g) (f : Fits book g) where
+module _ (book : List ℕ) (a : Accepted book) (g : Game) (f : Fits book g) where
   distinct : Distinct (listedIn g)
-  distinct = listed-distinct book g a z f
+  distinct = listed-distinct book g a f
 
   -- the ends told that pass a test are those of the listed routines that come to stage 3
   module _ (test : Happening → Bool) (only : (h : Happening) → endsRoutine h ≡ false → test h ≡ false) where
@@ -151,10 +151,10 @@ module _ (book : List ℕ) (a : Accepted book) (g : Game) (z : Sized g) (f : Fit
     -- at the start none of them is in stage 3
     round-told : howMany test (historyOf book g) ≡ total (back book g)
     round-told =
-        let told = round-along book a g z f Claim claim-none claim-both claim-turn claim-none in
+        let told = round-along book a g f Claim claim-none claim-both claim-turn claim-none in
         let none =
         none-sum (counted test (atStart g)) (listedIn g)
-        (λ r h. rw (listed-stage book g a z f r (among-listed book g a z f r h), and-false (test (ended r)))) in
+        (λ r h. rw (listed-stage book g a f r (among-listed book g a f r h), and-false (test (ended r)))) in
         omega (arith, told)
 
   pub ends-counted :

@@ -15,7 +15,6 @@ use Rattle.layout.specs.Layout.{mostRoutines, routinesOf, countsOf}
 use Rattle.directory.specs.Directory.{stepCount, routineSteps}
 use Rattle.book.specs.Accepted.{Accepted}
 use Rattle.game.specs.declared.Game.{Game}
-use Rattle.game.specs.Game.{Sized}
 use Rattle.fitting.specs.Fits.{Fits}
 use Rattle.fitting.proofs.Decides.{fit-lists}
 use Rattle.round.specs.declared.Position.{Position}
@@ -123,21 +122,21 @@ module _ (book : List ℕ) (a : Accepted book) where
       let over = pass-pays book a endsRoutine mayEnd (λ r u l. ends-pay book r u) L all s ok in
       omega arith
 
-  module _ (g : Game) (z : Sized g) (f : Fits book g) where
+  module _ (g : Game) (f : Fits book g) where
     few-listed : length (listedIn g) ≤ mostRoutines
     few-listed =
-        let start = at-start-sound book g a z f in
+        let start = at-start-sound book g a f in
         let few = start .fits .lengthsInRange .0 in
-        omega (arith, entries-length (atStart g .game .listed) (fit-lists book (atStart g .game) (start .fits) .0) (start .sized .listed))
+        omega (arith, entries-length (atStart g .game .listed) (fit-lists book (atStart g .game) (start .fits) .0) (start .fits .sized .listed))
 
     passes-enough : RoundEnds book mostPasses (listedIn g) (atStart g)
     unfolding atStart
     passes-enough =
-        let all = listed-below book g a z f in
+        let all = listed-below book g a f in
         let set = isSignalStep book in
-        let few = few-steps book a set (listedIn g) (listed-distinct book g a z f) all in
+        let few = few-steps book a set (listedIn g) (listed-distinct book g a f) all in
         round-ends (turn-laws book a) (listedIn g) all (budget (listedIn g)) (pass-spends (listedIn g) all)
-        (λ s. refl) mostPasses (atStart g) (at-start-sound book g a z f) refl refl
+        (λ s. refl) mostPasses (atStart g) (at-start-sound book g a f) refl refl
         (omega (arith, few, total-left set (listedIn g) all (atStart g), total-ends (listedIn g) (atStart g), few-listed))
 
     pub enough : Enough book g

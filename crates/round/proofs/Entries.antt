@@ -19,7 +19,6 @@ use Rattle.book.specs.Accepted.{CountsInRange}
 use Rattle.lines.specs.declared.Line.{Line}
 use Rattle.game.specs.declared.Game.{Game}
 use Rattle.lines.specs.Lines.{mostEntries, itemAt, entriesOf, pushed, appended}
-use Rattle.game.specs.Game.{Sized}
 use Rattle.fitting.specs.Fits.{Fits}
 use Rattle.fitting.proofs.Lists.{joined, LineRight, used-all}
 use Rattle.fitting.proofs.Decides.{fit-lists}
@@ -79,7 +78,7 @@ module _ (l : Line) {routines : ℕ} (t : LineRight l routines) (z : length (l .
       let k : i < l .len = omega (arith, entries-length) in
       rw (item-at l (t .short) i k) (t .entries i k))
 
-module _ (book : List ℕ) (g : Game) (range : CountsInRange book) (z : Sized g) (f : Fits book g) where
+module _ (book : List ℕ) (g : Game) (range : CountsInRange book) (f : Fits book g) where
   -- entry i of the two lists, those to start behind those listed
   abbrev both : ℕ → ℕ
   both i = if ltb i (g .listed .len) then itemAt (g .listed) i else itemAt (g .starting) (i - g .listed .len)
@@ -112,20 +111,20 @@ module _ (book : List ℕ) (g : Game) (range : CountsInRange book) (z : Sized g)
   -- action 1: those to start come behind those listed
   pub joined-entries : entriesOf (appended (g .listed) (entriesOf (g .starting))) ≡ entriesOf (g .listed) ++ entriesOf (g .starting)
   joined-entries =
-      appended-entries (g .listed) (entriesOf (g .starting)) (z .listed)
-      (omega (arith, lists-short, range .fewRoutines, entries-length (g .starting) (fit-lists book g f .1) (z .starting)))
+      appended-entries (g .listed) (entriesOf (g .starting)) (f .sized .listed)
+      (omega (arith, lists-short, range .fewRoutines, entries-length (g .starting) (fit-lists book g f .1) (f .sized .starting)))
 
   pub joined-below : All (λ r. r < routinesOf book) (entriesOf (appended (g .listed) (entriesOf (g .starting))))
   joined-below =
       let (a, b) = fit-lists book g f in
       rw joined-entries
       (all-append (λ r. r < routinesOf book) (entriesOf (g .listed)) (entriesOf (g .starting))
-      (entries-below (g .listed) a (z .listed))
-      (entries-below (g .starting) b (z .starting)))
+      (entries-below (g .listed) a (f .sized .listed))
+      (entries-below (g .starting) b (f .sized .starting)))
 
   pub joined-short : length (entriesOf (appended (g .listed) (entriesOf (g .starting)))) ≤ mostEntries
   joined-short =
       let (a, b) = fit-lists book g f in
-      let m = entries-length (g .listed) a (z .listed) in
-      let n = entries-length (g .starting) b (z .starting) in
+      let m = entries-length (g .listed) a (f .sized .listed) in
+      let n = entries-length (g .starting) b (f .sized .starting) in
       rw (joined-entries, length-append, m, n) (omega (arith, lists-short, range .fewRoutines))

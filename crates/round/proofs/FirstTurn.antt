@@ -14,7 +14,7 @@ use Rattle.layout.specs.Layout.{routinesOf, countsOf}
 use Rattle.directory.specs.Directory.{routineSteps}
 use Rattle.book.specs.Accepted.{Accepted}
 use Rattle.game.specs.declared.Game.{Game}
-use Rattle.game.specs.Game.{continuing, routineAt, Sized}
+use Rattle.game.specs.Game.{continuing, routineAt}
 use Rattle.fitting.specs.Fits.{Fits}
 use Rattle.round.specs.declared.Position.{Position}
 use Rattle.round.specs.State.{State, Thing, Happening, missing, completed, isThere}
@@ -67,7 +67,7 @@ module _ (g : Game) (r : ℕ) where
   pub due-standing : (s u : State) → SameStanding (routineAt (u .game) r) (routineAt (s .game) r) → Due s → Due u
   due-standing s u standing (going, here) = (rw (standing .suspended, standing .stage) going, standing .position ∙ here)
 
-module _ (book : List ℕ) (a : Accepted book) (g : Game) (z : Sized g) (f : Fits book g) (r : ℕ) where
+module _ (book : List ℕ) (a : Accepted book) (g : Game) (f : Fits book g) (r : ℕ) where
   -- a claim that holds while others have their turns, that holds of routine r's own turns, and of one stretch after another
   module _
       (Claim : State → List Happening → State → Type 0)
@@ -85,18 +85,18 @@ module _ (book : List ℕ) (a : Accepted book) (g : Game) (z : Sized g) (f : Fit
 
       pub round-of-one : Claim (atStart g) (historyOf book g) (back book g)
       round-of-one =
-          round-along book a g z f Claim (λ s. others s s [] same-standing (λ t h. h)) both (λ q s l. each-turn q s (l .0))
+          round-along book a g f Claim (λ s. others s s [] same-standing (λ t h. h)) both (λ q s l. each-turn q s (l .0))
           (λ s. others s (again s) [] same-standing (λ t h. there-again s t ∙ h))
 
   module _ (inside : Among r (listedIn g)) (unsuspended : routineAt (atStart g .game) r .suspended ≡ false) where
     pub due-first : Due g r (atStart g)
-    due-first = (rw (unsuspended, listed-stage book g a z f r (among-listed book g a z f r inside)), refl)
+    due-first = (rw (unsuspended, listed-stage book g a f r (among-listed book g a f r inside)), refl)
 
     pub due-last : Due g r (back book g) → ⊥
     due-last due =
         let x = routineAt (back book g .game) r in
         let on : x .stage ≡ continuing = going-parts (x .suspended) _ (due .0) .1 in
-        ⊎-elim (λ e. omega (arith, on, e)) (λ e. omega (arith, on, e)) (demand-3 book a g z f .restedOrEnded r inside unsuspended)
+        ⊎-elim (λ e. omega (arith, on, e)) (λ e. omega (arith, on, e)) (demand-3 book a g f .restedOrEnded r inside unsuspended)
 
     -- what each such turn tells, the round tells
     pub told-then :
@@ -130,13 +130,13 @@ module _ (book : List ℕ) (a : Accepted book) (g : Game) (z : Sized g) (f : Fit
         -- a try that missed it caught up
         caught-up : (b c : List Happening) → historyOf book g ≡ b ++ (missing r p t ∷ c) → Completes r p (historyOf book g)
         caught-up b c e =
-            let (absent, none) = lacked book a g z f b c r p t e in
-            let comes = subst (Somewhere (Comes t)) e (came book a g z f t absent there) in
+            let (absent, none) = lacked book a g f b c r p t e in
+            let comes = subst (Somewhere (Comes t)) e (came book a g f t absent there) in
             elim (somewhere-append (Comes t) b (missing r p t ∷ c) comes) [
               | inl k ↦ absurd (none k)
               | inr (inl k) ↦ absurd (never-missing k)
               | inr (inr k) ↦
-                  let after = past-told (λ h. h ≡ completed r p) refl (demand-3 book a g z f .caughtUp b c r p t e k) in
+                  let after = past-told (λ h. h ≡ completed r p) refl (demand-3 book a g f .caughtUp b c r p t e k) in
                   subst (Completes r p) (sym e) (in-second (λ h. h ≡ completed r p) b (missing r p t ∷ c) (inr after))
             ]
 

@@ -13,11 +13,11 @@ use Rattle.numbers.proofs.Tests.{by-test}
 use Rattle.layout.specs.Layout.{mostCounters, countersOf, countsOf}
 use Rattle.book.specs.Accepted.{Accepted}
 use Rattle.game.specs.declared.Game.{Game}
-use Rattle.game.specs.Game.{withCounter, Sized}
+use Rattle.game.specs.Game.{withCounter}
 use Rattle.fitting.specs.Fits.{Fits}
 use Rattle.fitting.proofs.Decides.{CounterRight, parts-fit, fit-parts}
 use Rattle.orders.specs.Orders.{orderCount, obeyed}
-use Rattle.orders.proofs.Obeyed.{obeyed-fits, obeyed-sized}
+use Rattle.orders.proofs.Obeyed.{obeyed-fits}
 use Rattle.orders.proofs.Stores.{set-each}
 use Rattle.round.specs.declared.Effect.{Effect}
 use Rattle.round.specs.declared.Effect.the-variants.{Nothing, Mark, Put, Add, Give, GiveNumber, Start, Stop, Suspend, Resume}
@@ -42,7 +42,7 @@ module _ {book : List ℕ} {s : State} (h : Sound book s) where
                   let none : getD values c (pos 0) ≡ pos 0 =
                   elim (decLt c mostCounters) [
                     | yes l ↦ h .fits .countersBeyond c (omega arith) l
-                    | no m ↦ List·getD-eq-default values (pos 0) (omega (arith, h .sized .counters))
+                    | no m ↦ List·getD-eq-default values (pos 0) (omega (arith, h .fits .sized .counters))
                   ]
                   in
                   rw none (record { le = tt }, record { le = tt })
@@ -51,21 +51,20 @@ module _ {book : List ℕ} {s : State} (h : Sound book s) where
       }
 
   -- another game
-  pub game-sound : (g : Game) → Fits book g → Sized g → Sound book (withGame s g)
-  game-sound g f z = record { fits = f; sized = z; present = h .present; endSignals = h .endSignals; numbers = h .numbers }
+  pub game-sound : (g : Game) → Fits book g → Sound book (withGame s g)
+  game-sound g f = record { fits = f; present = h .present; endSignals = h .endSignals; numbers = h .numbers }
 
   -- an order on what the book has
   order-sound : (kind n : ℕ) → n < orderCount (countsOf book) kind → Sound book (withGame s (obeyed (s .game) kind n))
   order-sound kind n below =
       let g = s .game in
-      game-sound (obeyed g kind n) (obeyed-fits book g (h .fits) kind n (h .sized) below) (obeyed-sized g (h .sized) kind n)
+      game-sound (obeyed g kind n) (obeyed-fits book g (h .fits) kind n below)
 
   -- a signal is given, and these are the numbers then
   given-sound : (e : ℕ) (l : List (ℕ × ℤ)) (over : Bool) → NumbersRight l → Sound book (withNumbers (given s e) l over)
   given-sound e l over numbers =
       record {
         fits = h .fits;
-        sized = h .sized;
         present = length-set (s .present) e true ∙ h .present;
         endSignals = h .endSignals;
         numbers = numbers;
@@ -75,7 +74,7 @@ module _ {book : List ℕ} {s : State} (h : Sound book s) where
   counter-sound :
       Accepted book → (c : ℕ) (v : ℤ) → c < countersOf book → InRange v → Sound book (withGame s (withCounter (s .game) c v))
   counter-sound a c v below inside =
-      let z = h .sized in
+      let z = h .fits .sized in
       let l = s .game .counters in
       let there : c < length l = omega (arith, z .counters, a .laid .counts .fewCounters) in
       let (((lists, counters), signals), routines) = fit-parts book (s .game) (h .fits) in
@@ -84,14 +83,14 @@ module _ {book : List ℕ} {s : State} (h : Sound book s) where
       (λ k. (λ b. inside, λ out. absurd (omega arith))) (λ i m. counters i)
       in
       game-sound (withCounter (s .game) c v)
-      (parts-fit book (withCounter (s .game) c v) (a .laid .counts) (((lists, changed), signals), routines))
+      (parts-fit book (withCounter (s .game) c v) (a .laid .counts) (((lists, changed), signals), routines)
       (record {
         routines = z .routines;
         counters = length-set l c v ∙ z .counters;
         listed = z .listed;
         starting = z .starting;
         broadcast = z .broadcast;
-      })
+      }))
 
 module _ (book : List ℕ) (a : Accepted book) where
   pub effect-sound : (s : State) (e : Effect) → Right (countsOf book) s e → Sound book s → Sound book (effectOn e s)

@@ -8,7 +8,6 @@ use Rattle.kinds.specs.declared.Counts.{Counts}
 use Rattle.layout.specs.Layout.{routinesOf}
 use Rattle.book.specs.Accepted.{Accepted}
 use Rattle.game.specs.declared.Game.{Game}
-use Rattle.game.specs.Game.{Sized}
 use Rattle.fitting.specs.Fits.{Fits}
 use Rattle.round.specs.declared.Ending.{Ending}
 use Rattle.round.specs.declared.Ending.the-variants.{Ended, Rested, Missed, Continued}
@@ -60,8 +59,8 @@ module _ (book : List ℕ) (a : Accepted book) where
       turn-by book r s TellsMisses (λ h. refl) (λ h. omega (arith, shape .noMiss, stops-miss (shape .stops)))
 
   pub misses-told :
-      (g : Game) → Sized g → Fits book g → howMany isMiss (historyOf book g) ≡ missesOf (round book g .played .turns)
+      (g : Game) → Fits book g → howMany isMiss (historyOf book g) ≡ missesOf (round book g .played .turns)
   unfolding round howMany missesOf
-  misses-told g z f =
+  misses-told g f =
       instant-by (λ s p. TellsMisses p) (λ s. refl) (λ s. misses-both) book (λ r. r < routinesOf book) turn-misses (λ s p h. h) mostPasses
-      (listedIn g) (listed-below book g a z f) (atStart g)
+      (listedIn g) (listed-below book g a f) (atStart g)

@@ -8,7 +8,6 @@ use lib.Dec.{eqb}
 use lib.ListN.{length}
 use Rattle.book.specs.Accepted.{Accepted}
 use Rattle.game.specs.declared.Game.{Game}
-use Rattle.game.specs.Game.{Sized}
 use Rattle.fitting.specs.Fits.{Fits}
 use Rattle.round.specs.History.{stepsIn, howMany}
 use Rattle.round.specs.Actions.{atStart}
@@ -25,14 +24,14 @@ use Rattle.round.proofs.BookSteps.{steps-in-book, few-steps}
 use Rattle.round.proofs.OneStep.{one-of-distinct}
 use Rattle.round.proofs.Enough.{total-left}
 
-module _ (book : List ℕ) (a : Accepted book) (g : Game) (z : Sized g) (f : Fits book g) where
+module _ (book : List ℕ) (a : Accepted book) (g : Game) (f : Fits book g) where
   distinct : Distinct (listedIn g)
-  distinct = listed-distinct book g a z f
+  distinct = listed-distinct book g a f
 
   each-once : (set : ℕ → ℕ → Bool) → howMany (completes set) (historyOf book g) ≤ stepsIn book set (listedIn g)
   each-once set =
-      let below = listed-below book g a z f in
-      let paid = round-pays book a (completes set) (leftOf book a set) (turn-pays book a set) g z f in
+      let below = listed-below book g a f in
+      let paid = round-pays book a (completes set) (leftOf book a set) (turn-pays book a set) g f in
       omega (arith, total-left book a set (listedIn g) below (atStart g))
 
   signals-once : howMany givesSignal (historyOf book g) ≤ stepsIn book (isSignalStep book) (listedIn g)
@@ -43,7 +42,7 @@ module _ (book : List ℕ) (a : Accepted book) (g : Game) (z : Sized g) (f : Fit
 
   pub completed-once : CompletedOnce book g
   completed-once =
-      let below = listed-below book g a z f in
+      let below = listed-below book g a f in
       record {
         once = each-once;
         neverTwice = λ r p. omega (arith, each-once (theStep r p), one-of-distinct r p book (listedIn g) distinct);

@@ -10,7 +10,6 @@ use native.Mathlib.Omega.{arith}
 use Rattle.layout.specs.Layout.{routinesOf}
 use Rattle.book.specs.Accepted.{Accepted}
 use Rattle.game.specs.declared.Game.{Game}
-use Rattle.game.specs.Game.{Sized}
 use Rattle.fitting.specs.Fits.{Fits}
 use Rattle.round.specs.declared.Position.{Position}
 use Rattle.round.specs.State.{State, Happening}
@@ -76,8 +75,8 @@ module _
 
     -- the flags for another pass leave everybody what it has
     pub round-pays :
-        (g : Game) → Sized g → Fits book g →
+        (g : Game) → Fits book g →
         howMany test (historyOf book g) + total left (listedIn g) (round book g .played .state) ≤ total left (listedIn g) (atStart g)
-    round-pays g z f =
+    round-pays g f =
         let L = listedIn g in
-        round-along book a g z f (Claim L) (claim-none L) (claim-both L) (claim-turn L) (claim-none L)
+        round-along book a g f (Claim L) (claim-none L) (claim-both L) (claim-turn L) (claim-none L)

@@ -1,18 +1,16 @@
--- What a state of a round keeps from the eight actions on: its game fits, its arrays and flags are as long as they are, and every number
--- given is one that a counter holds.
+-- What a state of a round keeps from the eight actions on: its game fits, its flags are as many as they are, and every number given is one
+-- that a counter holds.
 use mathlib.Core.Path.{_≡_}
 use mathlib.Core.List.{List}
 use Prim.Native.Nat.{ℕ}
 use lib.ListN.{length}
 use Rattle.layout.specs.Layout.{mostRoutines, mostSignals}
-use Rattle.game.specs.Game.{Sized}
 use Rattle.fitting.specs.Fits.{Fits}
 use Rattle.round.specs.State.{State}
 use Rattle.round.proofs.Acts.{NumbersRight}
 
 pub record Sound (book : List ℕ) (s : State) : Type 0 where
   pub fits : Fits book (s .game)
-  pub sized : Sized (s .game)
   pub present : length (s .present) ≡ mostSignals
   pub endSignals : length (s .endSignals) ≡ mostRoutines
   pub numbers : NumbersRight (s .numbers)

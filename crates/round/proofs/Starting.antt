@@ -56,35 +56,35 @@ module _ (g : Game) where
   stage-behind : (r : ℕ) → stageBehind r ≡ getD (last g) r blank .stage
   stage-behind r = ap (λ (x : Routine). x .stage) (routine-behind r)
 
-module _ (book : List ℕ) (g : Game) (range : CountsInRange book) (z : Sized g) (f : Fits book g) where
+module _ (book : List ℕ) (g : Game) (range : CountsInRange book) (f : Fits book g) where
   first-long : (r : ℕ) → r < routinesOf book → r < length (first g)
-  first-long r l = omega (arith, each-length inStage1 (startsOf g) (g .routines), z .routines, range .fewRoutines)
+  first-long r l = omega (arith, each-length inStage1 (startsOf g) (g .routines), f .sized .routines, range .fewRoutines)
 
   joined-distinct : Distinct (joinedOf g)
   joined-distinct =
       let (l, s) = fit-lists book g f in
-      rw (joined-entries book g range z f)
-      (distinct-joined (entriesOf (g .listed)) (startsOf g) (entries-distinct (g .listed) l (z .listed))
-      (entries-distinct (g .starting) s (z .starting)) (λ r h k.
-      let (i, m, d) = among-in (g .listed) l (z .listed) r h in
-      let (j, n, e) = among-in (g .starting) s (z .starting) r k in
-      apart book g range z f i j m n (d ∙ sym e)))
+      rw (joined-entries book g range f)
+      (distinct-joined (entriesOf (g .listed)) (startsOf g) (entries-distinct (g .listed) l (f .sized .listed))
+      (entries-distinct (g .starting) s (f .sized .starting)) (λ r h k.
+      let (i, m, d) = among-in (g .listed) l (f .sized .listed) r h in
+      let (j, n, e) = among-in (g .starting) s (f .sized .starting) r k in
+      apart book g range f i j m n (d ∙ sym e)))
 
   -- one under way once action 1 is done is listed then
   under-way-joined : (r : ℕ) → r < routinesOf book → UnderWay (getD (first g) r blank .stage) → Among r (joinedOf g)
   under-way-joined r l way =
       let listed = entriesOf (g .listed) in
-      rw (joined-entries book g range z f)
+      rw (joined-entries book g range f)
       (⊎-elim (λ h. in-second (λ q. r ≡ q) listed (startsOf g) h)
       (λ n.
       let same = each-other inStage1 (startsOf g) (g .routines) r n in
       let before : UnderWay (routineAt g r .stage) = subst (λ (x : Routine). UnderWay (x .stage)) same way in
-      in-first (λ q. r ≡ q) listed (startsOf g) (in-among (g .listed) (fit-lists book g f .0) (z .listed) r (f .listedStages r l before)))
+      in-first (λ q. r ≡ q) listed (startsOf g) (in-among (g .listed) (fit-lists book g f .0) (f .sized .listed) r (f .listedStages r l before)))
       (among-or r (startsOf g)))
 
   first-range : (r : ℕ) → r < routinesOf book → getD (first g) r blank .stage ≤ stopped
   first-range r l =
-      let long : r < length (g .routines) = omega (arith, z .routines, range .fewRoutines) in
+      let long : r < length (g .routines) = omega (arith, f .sized .routines, range .fewRoutines) in
       ⊎-elim (λ h. omega (arith, each-given inStage1 continuing (λ x. refl) (startsOf g) (g .routines) r long h))
       (λ n. rw (each-other inStage1 (startsOf g) (g .routines) r n) (f .stagesInRange r l))
       (among-or r (startsOf g))
@@ -119,9 +119,9 @@ module _ (book : List ℕ) (g : Game) (range : CountsInRange book) (z : Sized g)
       let Below : ℕ → Type 0 = λ q. q < routinesOf book in
       let none : (rs : List ℕ) → All Below rs → Among r rs → ⊥ = λ rs below h. omega (arith, among-all Below r rs below h) in
       let none-kept : (test : ℕ → Bool) → Among r (kept test (joinedOf g)) → ⊥ =
-      λ test. none (kept test (joinedOf g)) (kept-below book g range z f test)
+      λ test. none (kept test (joinedOf g)) (kept-below book g range f test)
       in
-      let starts = entries-below (g .starting) (fit-lists book g f .1) (z .starting) in
+      let starts = entries-below (g .starting) (fit-lists book g f .1) (f .sized .starting) in
       routine-behind g r ∙
       ap withoutOrders
       (each-other inStage1 (staying g) (halted g) r (none-kept (stays g)) ∙
@@ -132,42 +132,42 @@ module _ (book : List ℕ) (g : Game) (range : CountsInRange book) (z : Sized g)
   listed-right : LineRight (atStart g .game .listed) (routinesOf book)
   unfolding atStart
   listed-right =
-      appended-right (staying g) (staying-short book g range z f) (kept-below book g range z f (stays g))
+      appended-right (staying g) (staying-short book g range f) (kept-below book g range f (stays g))
       (distinct-kept (stays g) (joinedOf g) joined-distinct)
 
   at-start-sized : Sized (atStart g .game)
   unfolding atStart
   at-start-sized =
       record {
-        routines = at-start-routines g ∙ z .routines;
-        counters = z .counters;
-        listed = appended-sized (staying g) (staying-short book g range z f);
+        routines = at-start-routines g ∙ f .sized .routines;
+        counters = f .sized .counters;
+        listed = appended-sized (staying g) (staying-short book g range f);
         starting = refl;
         broadcast = length-replicate mostSignals false;
       }
 
-module _ (book : List ℕ) (g : Game) (a : Accepted book) (z : Sized g) (f : Fits book g) where
+module _ (book : List ℕ) (g : Game) (a : Accepted book) (f : Fits book g) where
   abbrev range : CountsInRange book
   range = a .laid .counts
 
   pub listed-distinct : Distinct (entriesOf (atStart g .game .listed))
   listed-distinct =
-      entries-distinct (atStart g .game .listed) (listed-right book g range z f) (at-start-sized book g range z f .listed)
+      entries-distinct (atStart g .game .listed) (listed-right book g range f) (at-start-sized book g range f .listed)
 
   pub listed-below : All (λ r. r < routinesOf book) (entriesOf (atStart g .game .listed))
-  listed-below = at-start-listed book g range z f
+  listed-below = at-start-listed book g range f
 
   -- in the playing order, and among its entries
   listed-among : (r : ℕ) → In (atStart g .game .listed) r → Among r (entriesOf (atStart g .game .listed))
-  listed-among = in-among (atStart g .game .listed) (listed-right book g range z f) (at-start-sized book g range z f .listed)
+  listed-among = in-among (atStart g .game .listed) (listed-right book g range f) (at-start-sized book g range f .listed)
 
   pub among-listed : (r : ℕ) → Among r (entriesOf (atStart g .game .listed)) → In (atStart g .game .listed) r
-  among-listed = among-in (atStart g .game .listed) (listed-right book g range z f) (at-start-sized book g range z f .listed)
+  among-listed = among-in (atStart g .game .listed) (listed-right book g range f) (at-start-sized book g range f .listed)
 
   pub listed-stage : (r : ℕ) → In (atStart g .game .listed) r → routineAt (atStart g .game) r .stage ≡ continuing
   listed-stage r (i, h, e) =
-      let below : r < routinesOf book = rw e at (listed-right book g range z f .entries i h) in
-      staying-stage book g range z f r below (rw (at-start-entries book g range z f) at (listed-among r (i, h, e)))
+      let below : r < routinesOf book = rw e at (listed-right book g range f .entries i h) in
+      staying-stage book g range f r below (rw (at-start-entries book g range f) at (listed-among r (i, h, e)))
 
   at-start-fits : Fits book (atStart g .game)
   unfolding atStart
@@ -177,23 +177,23 @@ module _ (book : List ℕ) (g : Game) (a : Accepted book) (z : Sized g) (f : Fit
       let place : (r : ℕ) → after r .place ≡ routineAt g r .place = λ r. ap (λ (x : Position). x .place) (same r) in
       let left : (r : ℕ) → after r .left ≡ routineAt g r .left = λ r. ap (λ (x : Position). x .left) (same r) in
       let begun : (r : ℕ) → after r .begun ≡ routineAt g r .begun = λ r. ap (λ (x : Position). x .begun) (same r) in
-      let line = listed-right book g range z f in
-      let idle = other-stage book g range z f in
+      let line = listed-right book g range f in
+      let idle = other-stage book g range f in
       record {
         numbers = f .numbers;
-        routinesBeyond = blank-behind book g range z f;
+        routinesBeyond = blank-behind book g range f;
         countersBeyond = f .countersBeyond;
         signalsBeyond = λ e l m. getD-replicate mostSignals e false false m;
         entriesBeyond = (line .beyond, λ i l m. getD-replicate mostEntries i 0 0 m);
         stagesInRange =
-            λ r l. ⊎-elim (λ h. omega (arith, staying-stage book g range z f r l h)) (λ n. idle r l n .0) (among-or r (staying g));
+            λ r l. ⊎-elim (λ h. omega (arith, staying-stage book g range f r l h)) (λ n. idle r l n .0) (among-or r (staying g));
         placesInRange = λ r. rw (place r) (f .placesInRange r);
         countersInRange = f .countersInRange;
         lengthsInRange = (line .short, omega arith);
         entriesInRange = (line .entries, λ i l. absurd (omega arith));
         listedStages =
             λ r l way.
-            ⊎-elim (λ h. among-listed r (rw (at-start-entries book g range z f) h)) (λ n. absurd (idle r l n .1 way))
+            ⊎-elim (λ h. among-listed r (rw (at-start-entries book g range f) h)) (λ n. absurd (idle r l n .1 way))
             (among-or r (staying g));
         unlistedStages =
             λ r l out h.
@@ -203,6 +203,7 @@ module _ (book : List ℕ) (g : Game) (a : Accepted book) (z : Sized g) (f : Fit
         startStages = λ r inside. absurd (omega (arith, inside .1));
         leftWhereBegun = λ r. rw (begun r, place r, left r) (f .leftWhereBegun r);
         leftElsewhere = λ r. rw (begun r, left r) (f .leftElsewhere r);
+        sized = at-start-sized book g range f;
       }
 
   pub at-start-sound : Sound book (atStart g)
@@ -210,8 +211,7 @@ module _ (book : List ℕ) (g : Game) (a : Accepted book) (z : Sized g) (f : Fit
   at-start-sound =
       record {
         fits = at-start-fits;
-        sized = at-start-sized book g range z f;
-        present = z .broadcast;
-        endSignals = length-map (g .routines) (λ x. x .stopping) ∙ z .routines;
+        present = f .sized .broadcast;
+        endSignals = length-map (g .routines) (λ x. x .stopping) ∙ f .sized .routines;
         numbers = tt;
       }

@@ -49,7 +49,6 @@ end-sound : {book : List ℕ} (r : ℕ) {s : State} → Sound book s → Sound b
 end-sound r {s} h =
     record {
       fits = h .fits;
-      sized = h .sized;
       present = h .present;
       endSignals = length-set (s .endSignals) r true ∙ h .endSignals;
       numbers = h .numbers;
@@ -57,7 +56,7 @@ end-sound r {s} h =
 
 pub again-sound : {book : List ℕ} (s : State) → Sound book s → Sound book (again s)
 again-sound s h =
-    record { fits = h .fits; sized = h .sized; present = h .present; endSignals = h .endSignals; numbers = h .numbers }
+    record { fits = h .fits; present = h .present; endSignals = h .endSignals; numbers = h .numbers }
 
 -- routine r of the book
 module _ (book : List ℕ) (a : Accepted book) (r : ℕ) (below : r < routinesOf book) (s : State) (h : Sound book s) where
@@ -77,7 +76,7 @@ module _ (book : List ℕ) (a : Accepted book) (r : ℕ) (below : r < routinesOf
       Sound book (withGame s (withRoutine (s .game) r (placed (routineAt (s .game) r) stage y)))
   placed-sound stage y before low high stand =
       let f = h .fits in
-      let z = h .sized in
+      let z = f .sized in
       let g = s .game in
       let x = placed (routineAt g r) stage y in
       let there : r < length (g .routines) = omega (arith, z .routines, a .laid .counts .fewRoutines) in
@@ -99,14 +98,14 @@ module _ (book : List ℕ) (a : Accepted book) (r : ℕ) (below : r < routinesOf
       ))
       (λ i m. routines i)
       in
-      game-sound h (withRoutine g r x) (parts-fit book (withRoutine g r x) (a .laid .counts) (others, moved))
+      game-sound h (withRoutine g r x) (parts-fit book (withRoutine g r x) (a .laid .counts) (others, moved)
       (record {
         routines = length-set (g .routines) r x ∙ z .routines;
         counters = z .counters;
         listed = z .listed;
         starting = z .starting;
         broadcast = z .broadcast;
-      })
+      }))
 
 module _ (book : List ℕ) (a : Accepted book) where
   module _ (r : ℕ) (below : r < routinesOf book) where

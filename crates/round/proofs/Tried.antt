@@ -9,7 +9,6 @@ use Rattle.numbers.proofs.Tests.{not-true-false}
 use Rattle.layout.specs.Layout.{routinesOf}
 use Rattle.book.specs.Accepted.{Accepted}
 use Rattle.game.specs.declared.Game.{Game}
-use Rattle.game.specs.Game.{Sized}
 use Rattle.fitting.specs.Fits.{Fits}
 use Rattle.round.specs.State.{State, Thing, Happening, missing, past, isThere}
 use Rattle.round.specs.History.{Somewhere}
@@ -31,24 +30,24 @@ module _ (book : List ℕ) (a : Accepted book) where
       let t = turn-turned book a r s l ok in
       becomes-by (t .few) (t .keeps) (t .brings) (t .came) (turn-order book a r s ok)
 
-  module _ (g : Game) (z : Sized g) (f : Fits book g) where
+  module _ (g : Game) (f : Fits book g) where
     all : Becomes (atStart g) (historyOf book g) (round book g .played .state)
     all =
-        round-along book a g z f Becomes (λ s. becomes-same refl (λ t. refl)) becomes-both (λ r s l. turn-becomes r s (l .0))
+        round-along book a g f Becomes (λ s. becomes-same refl (λ t. refl)) becomes-both (λ r s l. turn-becomes r s (l .0))
         (λ s. becomes-same refl (there-again s))
 
     round-order : InOrder (There (atStart g)) (historyOf book g)
-    round-order = all .order (none-lost book a g z f)
+    round-order = all .order (none-lost book a g f)
 
     -- what comes is there behind the round
     pub comes : (t : Thing) → Somewhere (Comes t) (historyOf book g) → isThere (round book g .played .state) t ≡ true
-    comes t w = all .there (none-lost book a g z f) t .1 (inr w)
+    comes t w = all .there (none-lost book a g f) t .1 (inr w)
 
     -- what is new there has come
     pub came :
         (t : Thing) → isThere (atStart g) t ≡ false → isThere (round book g .played .state) t ≡ true →
         Somewhere (Comes t) (historyOf book g)
-    came t out there = ⊎-elim (λ k. clash k out) (λ w. w) (all .there (none-lost book a g z f) t .0 there)
+    came t out there = ⊎-elim (λ k. clash k out) (λ w. w) (all .there (none-lost book a g f) t .0 there)
 
     module _ (before after : List Happening) (r p : ℕ) (t : Thing) where
       -- what was found was there, or came

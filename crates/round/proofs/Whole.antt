@@ -4,7 +4,6 @@ use Prim.Native.Nat.{ℕ}
 use mathlib.Core.List.{List}
 use Rattle.book.specs.Accepted.{Accepted}
 use Rattle.game.specs.declared.Game.{Game}
-use Rattle.game.specs.Game.{Sized}
 use Rattle.fitting.specs.Fits.{Fits}
 use Rattle.round.specs.Whole.{ToldWhole}
 use Rattle.round.proofs.Accounts.{signals-completed, marks-completed}
@@ -14,19 +13,19 @@ use Rattle.round.proofs.Asked.{asked, completed-by-finding}
 use Rattle.round.proofs.Tried.{comes, came, found, lacked}
 use Rattle.round.proofs.Counters.{contents-made}
 
-pub told-whole : (book : List ℕ) (a : Accepted book) (g : Game) → Sized g → Fits book g → ToldWhole book g
-told-whole book a g z f =
+pub told-whole : (book : List ℕ) (a : Accepted book) (g : Game) → Fits book g → ToldWhole book g
+told-whole book a g f =
     record {
       signals = signals-completed book g;
       marks = marks-completed book g;
-      ends = ended-as-told book a g z f;
-      endings = ends-counted book a g z f;
-      misses = misses-told book a g z f;
-      comes = comes book a g z f;
-      came = came book a g z f;
+      ends = ended-as-told book a g f;
+      endings = ends-counted book a g f;
+      misses = misses-told book a g f;
+      comes = comes book a g f;
+      came = came book a g f;
       asked = asked book g;
       completedByFinding = completed-by-finding book g;
-      found = found book a g z f;
-      lacked = lacked book a g z f;
-      contents = contents-made book a g z f;
+      found = found book a g f;
+      lacked = lacked book a g f;
+      contents = contents-made book a g f;
     }

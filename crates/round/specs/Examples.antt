@@ -19,7 +19,7 @@ use Rattle.lines.specs.Lines.{isIn, appended}
 use Rattle.game.specs.Game.{routineAt, blankGame, withStart}
 use Rattle.fit_arrays.specs.Arrays.{entryFits, lineFits, countersFit, signalsFit}
 use Rattle.fit_routines.specs.Routines.{routineFits, slotFits}
-use Rattle.fitting.specs.Fitting.{fitsBook}
+use Rattle.fitting.specs.Fitting.{isSized, fitsBook}
 use Rattle.setup.specs.SetUp.{newGame}
 use Rattle.round.specs.declared.Ending.the-variants.{Ended, Continued}
 use Rattle.round.specs.State.{signal, Happening, gave, ended, missing, past, marked, completed, numbersWith, isEndThere, isThere}
@@ -104,7 +104,7 @@ pub as-told :
     × (stepsOn .ending ≡ Continued)
     × (length (stepsOn .told) ≡ mostTicks (routineSteps restsInOne 0))
 unfolding answer roundVerdict written marksIn countBelow round instant pass turn allDone ticks effectOn tick tickOf waitsFor fromEnd
-    openingBefore pastPartner atStart each kept appended isThere isEndThere numbersWith newGame blankGame withStart fitsBook routineFits
+    openingBefore pastPartner atStart each kept appended isThere isEndThere numbersWith newGame blankGame withStart isSized fitsBook routineFits
     slotFits entryFits lineFits countersFit signalsFit isIn allBelow anyBelow bookVerdict layoutVerdict directoryVerdict stepsVerdict
     nestingVerdict pausingVerdict routineWalk routinePart routineOf stepOf blockBy partnerOf viewAt stepAt decoded rowOf stepsBefore
     firstRefusal joined

@@ -13,7 +13,7 @@ use Rattle.verdicts.specs.Verdicts.{accepted}
 use Rattle.layout.specs.Layout.{routinesOf}
 use Rattle.book.specs.Accepted.{Accepted}
 use Rattle.game.specs.declared.Game.{Game}
-use Rattle.game.specs.Game.{routineAt, Sized}
+use Rattle.game.specs.Game.{routineAt}
 use Rattle.fitting.specs.Fits.{Fits}
 use Rattle.round.specs.declared.Position.{Position}
 use Rattle.round.specs.State.{State}
@@ -31,15 +31,15 @@ use Rattle.rules.proofs.Buffers.{written-marks, written-beyond, written
 
 module _ (book : List ℕ) (a : Accepted book) where
   pub answer-by-the-rules :
-      (run : ℕ → Instruction) (s : State) (buffer : List ℤ) → Sized (s .game) → Stands book a run (s .game) →
+      (run : ℕ → Instruction) (s : State) (buffer : List ℤ) → Stands book a run (s .game) →
       answer book (s .game) buffer .verdict ≡ accepted →
       ByTheRules book a run s buffer (answer book (s .game) buffer)
-  answer-by-the-rules run s buffer z stand e =
+  answer-by-the-rules run s buffer stand e =
       let g = s .game in
       let ((b, fits, space), played) = accepted-played book g buffer e in
-      let (run′, given, stands) = round-given book a run s [] z fits stand in
+      let (run′, given, stands) = round-given book a run s [] fits stand in
       let marks = marksIn (round book g .played .told) in
-      let room : numbersPerMark * length marks ≤ length buffer = omega (arith, space, completed-once book a g z fits .space) in
+      let room : numbersPerMark * length marks ≤ length buffer = omega (arith, space, completed-once book a g fits .space) in
       rw played (
       record {
         last = round book g .played .state;
@@ -48,7 +48,7 @@ module _ (book : List ℕ) (a : Accepted book) where
         starts = stand;
         given = given;
         game = refl;
-        counts = round-counts book a g z fits;
+        counts = round-counts book a g fits;
         stands = stands;
         counted = refl;
         buffered = written-marks marks (drop (numbersPerMark * length marks) buffer);
@@ -70,13 +70,13 @@ module _ (book : List ℕ) (a : Accepted book) where
 
   -- so whatever game a round is accepted for, the rules give its answer
   pub round-by-the-rules :
-      (s : State) (buffer : List ℤ) → Sized (s .game) → answer book (s .game) buffer .verdict ≡ accepted →
+      (s : State) (buffer : List ℤ) → answer book (s .game) buffer .verdict ≡ accepted →
       ByTheRules book a (threadsOf book a (s .game)) s buffer (answer book (s .game) buffer)
-  round-by-the-rules s buffer z e =
-      answer-by-the-rules (threadsOf book a (s .game)) s buffer z (threads-stand (s .game)) e
+  round-by-the-rules s buffer e =
+      answer-by-the-rules (threadsOf book a (s .game)) s buffer (threads-stand (s .game)) e
 
   -- and a round is accepted for every game that fits, if the buffer is long enough
   pub every-round-by-the-rules :
-      (s : State) (buffer : List ℤ) → Sized (s .game) → Fits book (s .game) → spaceFor book ≤ length buffer →
+      (s : State) (buffer : List ℤ) → Fits book (s .game) → spaceFor book ≤ length buffer →
       ByTheRules book a (threadsOf book a (s .game)) s buffer (answer book (s .game) buffer)
-  every-round-by-the-rules s buffer z f space = round-by-the-rules s buffer z (round-accepted book a (s .game) z f buffer space)
+  every-round-by-the-rules s buffer f space = round-by-the-rules s buffer (round-accepted book a (s .game) f buffer space)

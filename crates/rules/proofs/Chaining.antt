@@ -7,7 +7,6 @@ use mathlib.Core.List.{List, [], _∷_, map}
 use lib.ListN.{length, replicate}
 use lib.IntN.{ℤ}
 use Rattle.book.specs.Accepted.{CountsInRange}
-use Rattle.game.specs.Game.{Sized}
 use Rattle.fitting.specs.Fits.{Fits}
 use Rattle.round.specs.State.{State}
 use Rattle.round.specs.Actions.{atStart}
@@ -24,15 +23,15 @@ none-same b [] = refl
 none-same {B = B} b (x ∷ l) = ap (λ (m : List B). b ∷ m) (none-same b l)
 
 pub chains :
-    (book : List ℕ) (s : State) (ms : List (ℕ × ℤ)) → CountsInRange book → Sized (s .game) → Fits book (s .game) →
+    (book : List ℕ) (s : State) (ms : List (ℕ × ℤ)) → CountsInRange book → Fits book (s .game) →
     unmoved (chained (view s ms)) ≡ view (atStart (s .game)) ms
 unfolding chained view atStart
-chains book s ms range z f =
+chains book s ms range f =
     let g = s .game in
-    let joined = sym (joined-entries book g range z f) in
-    let actual = ap (actual₆ g) joined ∙ sym (order-same g) ∙ sym (at-start-entries book g range z f) in
+    let joined = sym (joined-entries book g range f) in
+    let actual = ap (actual₆ g) joined ∙ sym (order-same g) ∙ sym (at-start-entries book g range f) in
     let status = ap (λ rs. allAt (is CONT) (actual₆ g rs) (status₃ g rs)) joined ∙ sym (status-same g) in
-    let broadcast = none-same false (g .broadcast) ∙ ap (λ n. replicate n false) (z .broadcast) in
+    let broadcast = none-same false (g .broadcast) ∙ ap (λ n. replicate n false) (f .sized .broadcast) in
     λ i.
     record {
       actual = actual i;

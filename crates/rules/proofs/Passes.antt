@@ -165,7 +165,7 @@ module _ (book : List ℕ) (a : Accepted book) where
   listed s = entriesOf (s .game .listed)
 
   listed-below : (s : State) → Sound book s → All (λ r. r < R) (listed s)
-  listed-below s sound = entries-below (s .game .listed) (fit-lists book (s .game) (sound .fits) .0) (sound .sized .listed)
+  listed-below s sound = entries-below (s .game .listed) (fit-lists book (s .game) (sound .fits) .0) (sound .fits .sized .listed)
 
   pub pass-by-rules :
       (run : ℕ → Instruction) (s : State) (ms : Marks) → Stands book a run (s .game) → Sound book s →

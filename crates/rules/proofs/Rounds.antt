@@ -5,7 +5,6 @@ use mathlib.Core.Path.{_≡_, sym, _∙_}
 use mathlib.Core.List.{List, _++_}
 use Rattle.book.specs.Accepted.{Accepted}
 use Rattle.game.specs.declared.Game.{Game}
-use Rattle.game.specs.Game.{Sized}
 use Rattle.fitting.specs.Fits.{Fits}
 use Rattle.round.specs.State.{State}
 use Rattle.round.specs.Actions.{atStart}
@@ -31,22 +30,22 @@ module _ (book : List ℕ) (a : Accepted book) where
   at-start-stands run g stand r l = rw (at-start-positions g r) (stand r l)
 
   -- and a round the numbers R, E and C, which are the book's
-  pub round-counts : (g : Game) → Sized g → Fits book g → round book g .played .state .game .counts ≡ g .counts
-  round-counts g z f = round-fits book a g z f .numbers ∙ sym (f .numbers)
+  pub round-counts : (g : Game) → Fits book g → round book g .played .state .game .counts ≡ g .counts
+  round-counts g f = round-fits book a g f .numbers ∙ sym (f .numbers)
 
   pub round-given :
-      (run : ℕ → Instruction) (s : State) (ms : Marks) → Sized (s .game) → Fits book (s .game) → Stands book a run (s .game) →
+      (run : ℕ → Instruction) (s : State) (ms : Marks) → Fits book (s .game) → Stands book a run (s .game) →
       (run′ : ℕ → Instruction)
       × Gives run (view s ms) (round book (s .game) .passes) run′
       (view (round book (s .game) .played .state) (ms ++ marksIn (round book (s .game) .played .told)))
       × Stands book a run′ (round book (s .game) .played .state .game)
   unfolding round
-  round-given run s ms z f stand =
+  round-given run s ms f stand =
       let g = s .game in
       let range = a .laid .counts in
       let (to, rule, last) =
-      instant-by-rules book a mostPasses run (atStart g) ms (at-start-stands run g stand) (at-start-sound book g a z f)
-      (enough book a g z f .passes) (none-lost book a g z f) in
+      instant-by-rules book a mostPasses run (atStart g) ms (at-start-stands run g stand) (at-start-sound book g a f)
+      (enough book a g f .passes) (none-lost book a g f) in
       let derived : Round (round book g .passes) run (view s ms) to
-      (view (round book g .played .state) (ms ++ marksIn (round book g .played .told))) = rw (chains book s ms range z f) rule in
+      (view (round book g .played .state) (ms ++ marksIn (round book g .played .told))) = rw (chains book s ms range f) rule in
       (to, record { derived = derived; noOther = λ n run″ σ″ other. instant-determined other derived }, last)

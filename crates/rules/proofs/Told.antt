@@ -53,7 +53,7 @@ module _ (book : List ℕ) (a : Accepted book) (r : ℕ) where
   steps = routineSteps book r
 
   sound-room : {s : State} → Sound book s → s .tooMany ≡ false → HasRoom (routinesOf book) s
-  sound-room {s} ok few = record { starting = fit-lists book (s .game) (ok .fits) .1; items = ok .sized .starting; few = few }
+  sound-room {s} ok few = record { starting = fit-lists book (s .game) (ok .fits) .1; items = ok .fits .sized .starting; few = few }
 
   -- the steps end as t says, from these marks on, and are some number
   abbrev EndsAs : Ticks → Position → State → Marks → Type 0

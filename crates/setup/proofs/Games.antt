@@ -1,10 +1,9 @@
 -- The game of an answer is the one given where nothing is turned down, and otherwise the one lent.
--- By the test of the verdict's number. Besides: what a contract promises of an answer, and lengths as a lent game's arrays show them.
+-- By the test of the verdict's number. Besides: what a contract promises of an answer.
 use Prim.Native.Nat.{ℕ}
-use mathlib.Core.Path.{_≡_, sym, _∙_, subst}
-use mathlib.Core.List.{List, map}
+use mathlib.Core.Path.{_≡_, sym, subst}
+use mathlib.Core.List.{List}
 use lib.Dec.{eqb}
-use lib.ListN.{length, length-map}
 use borrow.Author.Tests.{eqb-true, ne-eqb}
 use Rattle.numbers.proofs.Tests.{by-test}
 use Rattle.verdicts.specs.declared.Verdict.{Verdict}
@@ -21,6 +20,3 @@ module _ (v : Verdict) (given lent : Game) where
 
 pub promised : {s : List ℕ} {r o : Outcome} → GivesFitting s o → r ≡ o → (r ≡ o) × GivesFitting s r
 promised {s} f e = (e, subst (GivesFitting s) (sym e) f)
-
-pub length-mapped : (X Y : Type 0) (f : X → Y) (l : List X) (n : ℕ) → length (map f l) ≡ n → length l ≡ n
-length-mapped X Y f l n p = sym (length-map l f) ∙ p

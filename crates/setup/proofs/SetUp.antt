@@ -1,4 +1,4 @@
--- A game that is set up fits its book, and its arrays are as long as their types say.
+-- A game that is set up fits its book.
 -- Every routine, counter, signal and entry of a list is 0 in it, so each clause can be read off.
 use Prim.Native.Nat.{ℕ, zero, suc}
 use mathlib.Core.Path.{_≡_, refl, ap}
@@ -12,7 +12,6 @@ use lib.Signed.{leZ-yes}
 use Rattle.numbers.proofs.Tests.{clash}
 use Rattle.kinds.specs.declared.Counts.{Counts}
 use Rattle.layout.specs.Layout.{mostRoutines, mostSignals, mostCounters, countsOf}
-use Rattle.book.specs.Book.{bookVerdict}
 use Rattle.book.specs.Accepted.{Accepted}
 use Rattle.book.proofs.Telling.{accepted-tells}
 use Rattle.game.specs.declared.Game.{Game}
@@ -20,7 +19,6 @@ use Rattle.game.specs.Game.{notStarted, blank, routineAt, Sized}
 use Rattle.lines.specs.Lines.{mostEntries, empty, itemAt, pushed}
 use Rattle.fitting.specs.Fits.{Fits}
 use Rattle.setup.specs.SetUp.{GivesFitting, newGame, setUp}
-use Rattle.setup.proofs.Games.{game-either}
 
 -- each entry of a list that repeats one value is that value, past its end too
 all-same {ℓ} : {A : Type ℓ} (n i : ℕ) (a : A) → getD (replicate n a) i a ≡ a
@@ -33,7 +31,7 @@ item-first : (i : ℕ) → itemAt (pushed empty 0) i ≡ 0
 item-first i = all-same mostEntries i 0
 
 module _ (counts : Counts) where
-  pub new-game-sized : Sized (newGame counts)
+  new-game-sized : Sized (newGame counts)
   unfolding newGame
   new-game-sized =
       let items = length-replicate {A = ℕ} mostEntries 0 in
@@ -74,11 +72,8 @@ new-game-fits s a =
       startStages = λ r inside. stage r;
       leftWhereBegun = λ r l h. clash h (ap (λ x. x .begun) (routine r));
       leftElsewhere = λ r l h. ap (λ x. x .left) (routine r);
+      sized = new-game-sized (countsOf s);
     }
-
-pub set-up-sized : (s : List ℕ) (g : Game) → Sized g → Sized (setUp s g .game)
-unfolding setUp
-set-up-sized s g z = game-either (bookVerdict s) (newGame (countsOf s)) g Sized (λ e. new-game-sized (countsOf s)) z
 
 pub set-up-fits : (s : List ℕ) (g : Game) → GivesFitting s (setUp s g)
 unfolding setUp

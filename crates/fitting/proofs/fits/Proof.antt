@@ -1,16 +1,29 @@
 -- `fitting::fits` meets its contract. Each `&&` of the code goes on with its second test or stops at its first, and its answer
--- is that of the contract's tests up to there; the numbers of routines, counters and signals are tested before.
+-- is that of the contract's tests up to there; the numbers of routines, counters and signals are tested before. The arrays of the lent game
+-- are as long as their types say.
 use mathlib.Core.Path.{_≡_, refl, sym, _∙_}
-use mathlib.Core.Bool.{Bool, true, false, _&&_}
+use mathlib.Core.Bool.{Bool, true, false, _&&_, and-true}
 use mathlib.Core.Logic.{⊎-elim}
 use borrow.Author.Needs.{needs}
 use borrow.Author.Tests.{not-true, not-false}
 use Rattle.layout.specs.Layout.{countsOf}
 use Rattle.game.specs.declared.Game.{Game}
 use Rattle.fit_arrays.specs.Arrays.{lineFits, countersFit, signalsFit}
-use Rattle.fitting.specs.Fitting.{sameCounts, fitsBook}
+use Rattle.fitting.specs.Fitting.{sameCounts, isSized, fitsBook}
+use Rattle.fitting.proofs.Sizes.{is-sized, length-mapped}
 use Rattle.fitting.proofs.fits.Statement.{statement}
 use Rattle.fitting.proofs.fits.Tie as tie
+
+sized : (c : tie.Start) → isSized (c .args .game) ≡ true
+sized c =
+    is-sized (c .args .game) .1
+    (record {
+      routines = search (needs, length-mapped);
+      counters = search (needs, length-mapped);
+      listed = search (needs, length-mapped);
+      starting = search (needs, length-mapped);
+      broadcast = search (needs, length-mapped);
+    })
 
 -- the contract's tests up to the lists, the counters and the signals
 abbrev to-lists : Game → Bool
@@ -62,14 +75,15 @@ returns-2 : tie.Need-returns-2
 unfolding fitsBook
 returns-2 c =
     let first = c .before .before .before .before .before .before .before .before .before .before in
-    rw (sym (counts (first .before)) ∙ not-false _ (first .if1 .left))
+    rw (sym (counts (first .before)) ∙ not-false _ (first .if1 .left), sized (first .before .before .before .before .before), and-true)
     (goes _ (signals (c .before .before)) (c .before .if5 .taken) (c .routines-fit .ensures))
 
 returns-3 : tie.Need-returns-3
 unfolding fitsBook
 returns-3 c =
     let first = c .before .before .before .before .before .before .before .before .before in
-    rw (sym (counts (first .before)) ∙ not-false _ (first .if1 .left)) (stops _ (signals (c .before)) (c .if5 .left) refl)
+    rw (sym (counts (first .before)) ∙ not-false _ (first .if1 .left), sized (first .before .before .before .before .before), and-true)
+    (stops _ (signals (c .before)) (c .if5 .left) refl)
 
 pub fits-spec : {M : Type 1} → statement M
 fits-spec =

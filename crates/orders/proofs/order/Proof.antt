@@ -1,26 +1,14 @@
 -- `orders::order` meets its contract: the verdict decides between the game that obeys and the lent one as the contract does,
--- and the number of an order that is not turned down is one that `obey` takes. The lent game's arrays are as long as their types say,
--- so that the game after an accepted order fits.
+-- and the number of an order that is not turned down is one that `obey` takes. The game after an accepted order fits.
 use mathlib.Core.Path.{sym, ap, _∙_}
 use borrow.Author.Needs.{needs}
 use borrow.Author.Tests.{eq-eqb, ne-eqb}
-use Rattle.game.specs.Game.{Sized}
 use Rattle.orders.specs.Orders.{ordered}
-use Rattle.setup.proofs.Games.{promised, length-mapped}
+use Rattle.setup.proofs.Games.{promised}
 use Rattle.orders.proofs.After.{order-fits}
 use Rattle.orders.proofs.Counts.{nameable}
 use Rattle.orders.proofs.order.Statement.{statement}
 use Rattle.orders.proofs.order.Tie as tie
-
-sized : (c : tie.Start) → Sized (c .args .game)
-sized c =
-    record {
-      routines = search (needs, length-mapped);
-      counters = search (needs, length-mapped);
-      listed = search (needs, length-mapped);
-      starting = search (needs, length-mapped);
-      broadcast = search (needs, length-mapped);
-    }
 
 obey-requires : tie.Need-obey-requires
 obey-requires c κs = nameable _ _ _ _ (ap (λ v. v .number) (sym (c .before .before .order-verdict .ensures)) ∙ c .if1 .taken)
@@ -29,14 +17,14 @@ returns : tie.Need-returns
 unfolding ordered
 returns c =
     let told = c .before .before .before in
-    promised (order-fits _ _ _ _ (sized (told .before .before)))
+    promised (order-fits _ _ _ _)
     (rw (← (told .order-verdict .ensures), eq-eqb _ _ (c .before .if1 .taken), ← (c .obey .ensures)))
 
 returns-2 : tie.Need-returns-2
 unfolding ordered
 returns-2 c =
     let told = c .before .before in
-    promised (order-fits _ _ _ _ (sized (told .before .before))) (rw (← (told .order-verdict .ensures), ne-eqb _ _ (c .if1 .left)))
+    promised (order-fits _ _ _ _) (rw (← (told .order-verdict .ensures), ne-eqb _ _ (c .if1 .left)))
 
 pub order-spec : {M : Type 1} → statement M
 order-spec = tie.close (tie.spec (λ c κs. search needs) obey-requires returns returns-2)

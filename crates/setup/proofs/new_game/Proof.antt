@@ -10,7 +10,7 @@ use lib.Seq.{take-suc-set, take-all}
 use Rattle.layout.specs.Layout.{mostRoutines}
 use Rattle.game.specs.Game.{blank}
 use Rattle.setup.specs.SetUp.{newGame}
-use Rattle.setup.proofs.Games.{length-mapped}
+use Rattle.fitting.proofs.Sizes.{length-mapped}
 use Rattle.setup.proofs.new_game.Statement.{statement}
 use Rattle.setup.proofs.new_game.Tie as tie
 
