@@ -1,4 +1,4 @@
--- "A game fits a book if": document 01's paragraph, clause by clause.
+-- "A game fits a book if": document 01's paragraph, clause by clause, and last the lengths of the arrays that the types fix.
 use Prim.Native.Nat.{ℕ, _<_, _≤_}
 use mathlib.Core.Path.{_≡_}
 use mathlib.Core.Bool.{true, false}
@@ -56,5 +56,5 @@ pub record Fits (s : List ℕ) (g : Game) : Type 0 where
   pub leftWhereBegun :
       (r : ℕ) → r < routinesOf s → routineAt g r .begun ≡ true → (n : ℕ) × Timed (stepHere s g r) n × (routineAt g r .left < n)
   pub leftElsewhere : (r : ℕ) → r < routinesOf s → routineAt g r .begun ≡ false → routineAt g r .left ≡ 0
-  -- and the arrays are as long as their types say, as in every game that a program holds
+  -- the arrays are as long as their types say, as in every game that a program holds
   pub sized : Sized g

@@ -22,7 +22,7 @@ orderCount counts kind =
     let R = counts .routines in
     getD (E ∷ R ∷ R ∷ R ∷ R ∷ []) kind 0
 
--- the most routines, signals and counters that there can be: an order for any book names a number below these
+-- the most routines, signals and counters that there can be: an accepted order names a number below these, whatever the book
 abbrev pub mostCounts : Counts
 mostCounts = record { routines = mostRoutines; signals = mostSignals; counters = mostCounters }
 

@@ -1,6 +1,6 @@
--- The game after a round fits the book; the round has kept its playing order, and suspended nobody and resumed nobody, and a number that
--- was too many stayed so. The state behind the eight actions is sound, and turns keep it so; hence what holds of each turn in a sound state
--- holds of a round.
+-- The game after a round fits the book; the round has kept its playing order, and suspended nobody and resumed nobody, and once a number
+-- was too many, that stays noted. The state behind the eight actions is sound, and turns keep it so; hence what holds of each turn in a
+-- sound state holds of a round.
 use Prim.Native.Nat.{ℕ, _<_}
 use mathlib.Core.Path.{_≡_, refl, _∙_}
 use mathlib.Core.Bool.{Bool, false}

@@ -110,6 +110,7 @@ module _ (book : List ℕ) where
         record {
           place = w .place;
           thing = w .thing;
+          stands = w .waits .place;
           before = c .before;
           missed = c .history;
           tryAgain =

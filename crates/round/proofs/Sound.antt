@@ -1,5 +1,5 @@
--- What a state of a round keeps from the eight actions on: its game fits, its flags are as many as they are, and every number given is one
--- that a counter holds.
+-- What a state of a round keeps from the eight actions on: its game fits, there is a flag for each signal and each routine that there
+-- can be, and every number given is one that a counter holds.
 use mathlib.Core.Path.{_≡_}
 use mathlib.Core.List.{List}
 use Prim.Native.Nat.{ℕ}

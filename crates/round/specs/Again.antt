@@ -14,12 +14,13 @@ use Rattle.round.specs.Demand.{givesSignal, endsRoutine}
 
 module _ (book : List ℕ) where
   -- Rules 15, 26 and 31; "A join left waiting asks again at every try".
-  -- a turn of routine r from state s that is to be continued stopped at a place since a thing was missing; a turn from a state u in which
-  -- eoi is not set, the thing is still missing and the routine has the stage, the suspension and the position that the first turn left it
-  -- leaves u as it is and is to be continued
+  -- a turn of routine r from state s that is to be continued stopped at a place, where the routine then stands, since a thing was missing;
+  -- a turn from a state u in which eoi is not set, the thing is still missing and the routine has the stage, the suspension and the
+  -- position that the first turn left it leaves u as it is and is to be continued
   pub record TriesAgain (r : ℕ) (s : State) : Type 0 where
     pub place : ℕ
     pub thing : Thing
+    pub stands : routineAt (turn book r s .state .game) r .place ≡ place
     pub before : List Happening
     pub missed : turn book r s .told ≡ before ++ (missing r place thing ∷ [])
     pub tryAgain :

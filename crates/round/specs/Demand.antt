@@ -1,5 +1,6 @@
--- Demand 3: its four sentences stand over the fields of Demand3, and its words are read as document 01 says: "What do demand 3's words
--- mean? They are read off book and game as lent, through the passes of rules 35 and 36 as read here."
+-- Demand 3, the third of the three demands on rounds (docs/ARCHITECTURE.md): its four sentences stand over the fields of Demand3, and its
+-- words are read as document 01 says: "What do demand 3's words mean? They are read off book and game as lent, through the passes of rules
+-- 35 and 36 as read here."
 use Prim.Native.Nat.{ℕ, _+_, _≤_}
 use mathlib.Core.Path.{_≡_}
 use mathlib.Core.Bool.{Bool, true, false, _||_}

@@ -34,7 +34,7 @@ module _ (book : List ℕ) where
       let first = pass book rs s in
       (allDone (first .turns) ≡ true) ⊎ ((allDone (first .turns) ≡ false) × RoundEnds n rs (again (first .state)))
 
-  -- the numbers of the definitions are enough, for every turn and for the round from game g
+  -- mostTicks steps are enough for every turn, and mostPasses passes for the round from game g
   pub record Enough (g : Game) : Type 0 where
     pub turns :
         (r : ℕ) → r < routinesOf book → (x : Position) (s : State) →

@@ -15,7 +15,7 @@ use Rattle.rules.specs.Rules.{⟨_&_⟩⟶[_]⟨_&_⟩, rule1, rule2, ru
 use Rattle.rules.specs.Rules.{rule13, rule14, rule15, rule16, rule17, rule18, rule18-again, rule19, rule20, rule21, rule22, rule23}
 use Rattle.rules.specs.Rules.{rule24, rule25, rule26, rule27, rule28, rule29, rule29-again, rule30, rule31, rule32}
 use Rattle.rules.specs.Instants.{Thread, rule33, rule34, InTurn, none, next, ExecutionStep, rule35, rule36, Instant, rule37, rule38}
-use Rattle.rules.proofs.Given.{given}
+use Rattle.rules.proofs.Naming.{given}
 
 -- what a derivation comes to, as one value: a status, a Boolean or a number; the instructions left; the scheduler
 data Result (A B : Type 0) : Type 0 where

@@ -1,4 +1,4 @@
-pub mod Given
+pub mod Naming
 pub mod Walks
 pub mod Stages
 pub mod Lines

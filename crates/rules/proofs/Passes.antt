@@ -46,7 +46,7 @@ use Rattle.rules.specs.Instants.{runs, isFinished, rule33, rule34, InTur
 use Rattle.rules.specs.Residual.{residual, _⇝_}
 use Rattle.rules.specs.View.{view}
 use Rattle.rules.specs.Claims.{Stands, TurnRule, PassRule, InstantRule}
-use Rattle.rules.proofs.Given.{given}
+use Rattle.rules.proofs.Naming.{given}
 use Rattle.rules.proofs.Walks.{Marks, statusAfter}
 use Rattle.rules.proofs.Told.{marks-then, ends-of}
 use Rattle.rules.proofs.Stages.{stage-continues, stage-pauses, stage-seen}
