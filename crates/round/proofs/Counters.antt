@@ -1,9 +1,11 @@
 -- The counters and numbers behind a round are what the steps told as completed make of the counters before it. So it is of each step, by
--- the rows of the table of kinds, and of one stretch after another; no number is lost in a round.
+-- the rows of the table of kinds, which say too where a step leads, or leaves its routine; and of one stretch after another. No number is
+-- lost in a round.
 use Prim.Native.Nat.{ℕ}
 use mathlib.Core.Path.{_≡_, refl, sym, subst, ap, _∙_}
 use mathlib.Core.Bool.{false, _&&_, not}
 use mathlib.Core.List.{List, [], _∷_, _++_}
+use native.Mathlib.Omega.{arith}
 use lib.Dec.{eqb, ltb}
 use lib.ListN.{length}
 use lib.IntN.{ℤ}
@@ -20,47 +22,46 @@ use Rattle.book.specs.Accepted.{Accepted}
 use Rattle.game.specs.declared.Game.{Game}
 use Rattle.fitting.specs.Fits.{Fits}
 use Rattle.numbers.proofs.Tests.{clash, by-test}
+use Rattle.round.specs.declared.Ending.{Ending}
+use Rattle.round.specs.declared.Ending.the-variants.{Ended, Rested, Missed, Continued}
 use Rattle.round.specs.declared.Position.{Position}
 use Rattle.round.specs.declared.Effect.{Effect}
 use Rattle.round.specs.declared.Effect.the-variants.{Nothing, Put}
 use Rattle.round.specs.declared.Act.{Act}
 use Rattle.round.specs.declared.Act.the-variants.{Goes, Halts}
-use Rattle.round.specs.State.{State, Thing, signal, end, number, Happening, gave, ended, missing, past, marked, completed}
+use Rattle.round.specs.State.{State, Thing, signal, end, number, Happening, missing, past, completed}
 use Rattle.round.specs.State.{numberAt, isThere}
 use Rattle.round.specs.Actions.{atStart}
-use Rattle.round.specs.Ticks.{Tick, fresh, countAt, onward, tries, waitsFor, tickOf, tickAt, tick, mostNumbers, effectOn}
+use Rattle.round.specs.Jumps.{sizeOf}
+use Rattle.round.specs.Ticks.{Tick, telling, fresh, countAt, onward, tries, waitsFor, tickOf, quits, tickAt, tick, mostNumbers}
+use Rattle.round.specs.Ticks.{effectOn}
 use Rattle.round.specs.Rounds.{ticks, ticksOf, turn, round, historyOf}
-use Rattle.round.specs.Whole.{Contents, madeBy, contentsAfter}
+use Rattle.round.specs.Replay.{Contents, madeBy, leadsTo, leftBy, atStep, madeOf, contentsAfter}
 use Rattle.round.proofs.Stepping.{ticks-by}
 use Rattle.round.proofs.Along.{round-always}
 use Rattle.round.proofs.AfterTurn.{end-keeps, turn-by}
 use Rattle.round.proofs.Demand.{none-lost}
 
 -- the counters and numbers of a state
-abbrev contentsOf : State → Contents
+abbrev pub contentsOf : State → Contents
 contentsOf s = (s .game .counters, s .numbers)
 
 module _ (book : List ℕ) where
-  after-append : (a b : List Happening) (c : Contents) → contentsAfter book (a ++ b) c ≡ contentsAfter book b (contentsAfter book a c)
+  pub after-append : (a b : List Happening) (c : Contents) → contentsAfter book (a ++ b) c ≡ contentsAfter book b (contentsAfter book a c)
   unfolding contentsAfter
   after-append [] b c = refl
-  after-append (gave e k ∷ a) b c = after-append a b c
-  after-append (ended r ∷ a) b c = after-append a b c
-  after-append (missing r p t ∷ a) b c = after-append a b c
-  after-append (past r p t ∷ a) b c = after-append a b c
-  after-append (marked r n ∷ a) b c = after-append a b c
-  after-append (completed r p ∷ a) b c = after-append a b _
+  after-append (h ∷ a) b c = after-append a b (madeOf book h c)
 
   -- what is told between two states makes the second's contents of the first's; nothing is claimed where more numbers are given than are
   -- kept
-  abbrev Makes : State → List Happening → State → Type 0
+  abbrev pub Makes : State → List Happening → State → Type 0
   Makes s told u = u .tooMany ≡ false → (s .tooMany ≡ false) × (contentsOf u ≡ contentsAfter book told (contentsOf s))
 
-  makes-same : (s : State) → Makes s [] s
+  pub makes-same : (s : State) → Makes s [] s
   unfolding contentsAfter
   makes-same s few = (few, refl)
 
-  makes-both : (s u v : State) (a b : List Happening) → Makes s a u → Makes u b v → Makes s (a ++ b) v
+  pub makes-both : (s u v : State) (a b : List Happening) → Makes s a u → Makes u b v → Makes s (a ++ b) v
   makes-both s u v a b first then h =
       let (here, second) = then h in
       let (few, one) = first here in
@@ -73,69 +74,81 @@ module _ (book : List ℕ) where
 
     -- a step with these fields
     module _ (op a b : ℕ) (n : ℤ) where
-      -- one that goes on changes the contents as its fields say, and one that halts the turn not at all
+      -- where one that halts the turn leaves its routine; none of them ends it
+      abbrev pub LeavesAt : Ending → Position → Type 0
+      LeavesAt Ended y = ⊥
+      LeavesAt Rested y = y .place ≡ leftBy op (x .place)
+      LeavesAt Missed y = y .place ≡ leftBy op (x .place)
+      LeavesAt Continued y = y .place ≡ x .place
+
+      -- one that goes on changes the contents, and leads on, as its fields say; one that halts the turn changes nothing
       abbrev Agrees : Act → List Happening → Type 0
       Agrees (Goes q e) told =
-          effectOn e s .tooMany ≡ false →
-          (s .tooMany ≡ false) × (contentsOf (effectOn e s) ≡ contentsAfter book told (madeBy op a b n (contentsOf s)))
-      Agrees (Halts how y) told = Makes s told s
+          (q ≡ leadsTo steps (x .place) op a b n (s .game .counters)) ×
+          (effectOn e s .tooMany ≡ false →
+          (s .tooMany ≡ false) × (contentsOf (effectOn e s) ≡ contentsAfter book told (madeBy op a b n (contentsOf s))))
+      Agrees (Halts how y) told = LeavesAt how y × Makes s told s
 
       abbrev TickAgrees : Tick → Type 0
       TickAgrees t = Agrees (t .act) (t .told)
 
       tries-agrees :
           (t : Thing) (e : Effect) (y : Position) → Agrees (onward r steps x s e) (past r (x .place) t ∷ []) →
-          TickAgrees (tries r steps x s t e y)
+          y .place ≡ leftBy op (x .place) → TickAgrees (tries r steps x s t e y)
       unfolding contentsAfter
-      tries-agrees t e y h =
+      tries-agrees t e y h left =
           by-test TickAgrees (isThere s t) (λ there. h)
           (λ none.
-          by-test (λ act. Agrees act (missing r (x .place) t ∷ [])) (s .eoi) (λ closing few. (few, refl)) (λ going few. (few, refl)))
+          by-test (λ act. Agrees act (missing r (x .place) t ∷ [])) (s .eoi) (λ closing. (left, λ few. (few, refl)))
+          (λ going. (refl, λ few. (few, refl))))
 
       waits-agrees :
-          (t : Thing) (k : ℕ) → Agrees (onward r steps x s Nothing) [] → TickAgrees (waitsFor r steps x s t k)
+          (t : Thing) (k : ℕ) → Agrees (onward r steps x s Nothing) [] → x .place ≡ leftBy op (x .place) →
+          TickAgrees (waitsFor r steps x s t k)
       unfolding waitsFor contentsAfter
-      waits-agrees t k h = by-test TickAgrees (eqb k 0 && not (isThere s t)) (λ over. h) (λ some. tries-agrees t Nothing _ h)
+      waits-agrees t k h left = by-test TickAgrees (eqb k 0 && not (isThere s t)) (λ over. h) (λ some. tries-agrees t Nothing _ h left)
 
     -- each row of the table: its op with the fields a, b and n
     table-agrees :
         (a b : ℕ) (n : ℤ) →
         Rows (λ op row. TickAgrees op a b n (tickOf r steps x s (row .4))) 0 (table (countsOf book) a b n)
-    unfolding tickOf effectOn madeBy contentsAfter
+    unfolding tickOf effectOn madeBy leadsTo contentsAfter
     table-agrees a b n =
-        (λ few. (few, refl))
-        and (λ few. (few, refl))
-        and (λ few. (few, refl))
-        and (λ few. (few, refl))
-        and (λ few. (few, refl))
-        and by-test (λ u. u .tooMany ≡ false → (s .tooMany ≡ false) × (contentsOf u ≡ madeBy 5 a b n (contentsOf s)))
-        (ltb (length (s .numbers)) mostNumbers) (λ room few. (few, refl)) (λ full few. clash refl few)
-        and (λ few. (few, refl))
-        and by-test (λ act. Agrees 7 a b n act []) (eqb (countAt x (countOf n)) 0) (λ over few. (few, refl)) (λ some few. (few, refl))
-        and tries-agrees 8 a b n (signal a) Nothing (fresh (x .place)) (λ few. (few, refl))
-        and waits-agrees 9 a b n (signal a) (countAt x (countOf n)) (λ few. (few, refl))
-        and tries-agrees 10 a b n (end a) Nothing (fresh (x .place)) (λ few. (few, refl))
-        and waits-agrees 11 a b n (end a) (countAt x (countOf n)) (λ few. (few, refl))
-        and tries-agrees 12 a b n (number a (countOf n)) (Put b (numberAt s a (countOf n))) _ (λ few. (few, refl))
-        and (λ few. (few, refl))
-        and (λ few. (few, refl))
-        and (λ few. (few, refl))
-        and (λ few. (few, refl))
-        and (λ few. (few, refl))
-        and (λ few. (few, refl))
-        and (λ few. (few, refl))
-        and (λ few. (few, refl))
+        (refl, λ few. (few, refl))
+        and (refl, λ few. (few, refl))
+        and (refl, λ few. (few, refl))
+        and (refl, λ few. (few, refl))
+        and (refl, λ few. (few, refl))
+        and (
+          refl,
+          by-test (λ u. u .tooMany ≡ false → (s .tooMany ≡ false) × (contentsOf u ≡ madeBy 5 a b n (contentsOf s)))
+              (ltb (length (s .numbers)) mostNumbers) (λ room few. (few, refl)) (λ full few. clash refl few),
+        )
+        and (refl, λ few. (few, refl))
+        and by-test (λ act. Agrees 7 a b n act []) (eqb (countAt x (countOf n)) 0) (λ over. (refl, λ few. (few, refl)))
+        (λ some. (refl, λ few. (few, refl)))
+        and tries-agrees 8 a b n (signal a) Nothing (fresh (x .place)) (refl, λ few. (few, refl)) refl
+        and waits-agrees 9 a b n (signal a) (countAt x (countOf n)) (refl, λ few. (few, refl)) refl
+        and tries-agrees 10 a b n (end a) Nothing (fresh (x .place)) (refl, λ few. (few, refl)) refl
+        and waits-agrees 11 a b n (end a) (countAt x (countOf n)) (refl, λ few. (few, refl)) refl
+        and tries-agrees 12 a b n (number a (countOf n)) (Put b (numberAt s a (countOf n))) _ (refl, λ few. (few, refl)) refl
+        and (refl, λ few. (few, refl))
+        and (refl, λ few. (few, refl))
+        and (refl, λ few. (few, refl))
+        and (refl, λ few. (few, refl))
+        and (refl, λ few. (few, refl))
+        and (refl, λ few. (few, refl))
+        and (refl, λ few. (few, refl))
+        and (refl, λ few. (few, refl))
         and tt
 
-    -- the step that stands there
-    abbrev StepAgrees : Act → List Happening → Type 0
-    StepAgrees = Agrees (opAt steps (x .place)) (fieldA steps (x .place)) (fieldB steps (x .place)) (fieldN steps (x .place))
+    -- what the step there comes to, or the routine's end where none stands
+    abbrev StepAgrees : Step → Tick → Type 0
+    StepAgrees (step.Kind k) t = atStep TickAgrees steps (x .place) t
+    StepAgrees step.Refused t = (t .act ≡ quits r steps x s .act) × (t .told ≡ quits r steps x s .told)
 
     step-agrees :
-        (st : Step) → stepAt (countsOf book) steps (x .place) ≡ st →
-        let t = tickAt r steps x s st in
-        StepAgrees (t .act) (t .told)
-    unfolding contentsAfter
+        (st : Step) → stepAt (countsOf book) steps (x .place) ≡ st → StepAgrees st (tickAt r steps x s st)
     step-agrees (step.Kind k) e =
         let p = x .place in
         let a = fieldA steps p in
@@ -143,12 +156,38 @@ module _ (book : List ℕ) where
         let n = fieldN steps p in
         subst (λ (k : Kind). TickAgrees (opAt steps p) a b n (tickOf r steps x s k)) (row-kind (countsOf book) steps p e)
         (step-holds (λ op (row : Row). TickAgrees op a b n (tickOf r steps x s (row .4))) (countsOf book) steps p (table-agrees a b n) e)
-    step-agrees step.Refused e = λ few. (few, refl)
+    step-agrees step.Refused e = (refl, refl)
 
-    tick-agrees : {t : Tick} → tick (countsOf book) r steps x s ≡ t → StepAgrees (t .act) (t .told)
+    abbrev here : Step
+    here = stepAt (countsOf book) steps (x .place)
+
+    tick-agrees : {t : Tick} → tick (countsOf book) r steps x s ≡ t → StepAgrees here t
     unfolding tick
-    tick-agrees same =
-        subst (λ (t : Tick). StepAgrees (t .act) (t .told)) same (step-agrees (stepAt (countsOf book) steps (x .place)) refl)
+    tick-agrees same = subst (StepAgrees here) same (step-agrees here refl)
+
+    pub goes-agrees :
+        {q : ℕ} {e : Effect} {told : List Happening} → tick (countsOf book) r steps x s ≡ telling (Goes q e) told →
+        atStep Agrees steps (x .place) (Goes q e) told
+    goes-agrees {q} {e} {told} same = by here (tick-agrees same)
+      where
+        by : (st : Step) → StepAgrees st (telling (Goes q e) told) → atStep Agrees steps (x .place) (Goes q e) told
+        by (step.Kind k) h = h
+        by step.Refused (h, k) = let z : _≡_ {A = ℕ} 0 1 = cc in absurd (omega arith)
+
+    -- where the turn halts: at a step that leaves its routine so, or at the routine's end
+    abbrev pub HaltsAt : Step → Ending → Position → Type 0
+    HaltsAt (step.Kind k) how y = atStep LeavesAt steps (x .place) how y
+    HaltsAt step.Refused how y = (how ≡ Ended) × (y ≡ fresh (sizeOf steps))
+
+    pub halts-agrees :
+        {how : Ending} {y : Position} {told : List Happening} → tick (countsOf book) r steps x s ≡ telling (Halts how y) told →
+        HaltsAt here how y × Makes s told s
+    unfolding contentsAfter
+    halts-agrees {how} {y} {told} same = by here (tick-agrees same)
+      where
+        by : (st : Step) → StepAgrees st (telling (Halts how y) told) → HaltsAt st how y × Makes s told s
+        by (step.Kind k) h = h
+        by step.Refused (h, k) = ((cc, cc), subst (λ (l : List Happening). Makes s l s) (sym k) (λ few. (few, refl)))
 
   ticks-make :
       (r n : ℕ) (x : Position) (s : State) →
@@ -158,10 +197,10 @@ module _ (book : List ℕ) where
   ticks-make r =
       ticks-by (countsOf book) r (routineSteps book r) (λ x s t. Makes s (t .told) (t .state))
       (λ x s q e told t same leaves right says rest.
-      makes-both s (effectOn e s) (t .state) (completed r (x .place) ∷ told) (t .told) (tick-agrees r x s same) rest)
-      (λ x s how y told same stays stops. tick-agrees r x s same) (λ x s. makes-same s)
+      makes-both s (effectOn e s) (t .state) (completed r (x .place) ∷ told) (t .told) (goes-agrees r x s same .1) rest)
+      (λ x s how y told same stays stops. halts-agrees r x s same .1) (λ x s. makes-same s)
 
-  turn-makes : (r : ℕ) (s : State) → Makes s (turn book r s .told) (turn book r s .state)
+  pub turn-makes : (r : ℕ) (s : State) → Makes s (turn book r s .told) (turn book r s .state)
   turn-makes r s =
       let t = ticksOf book r s in
       turn-by book r s (λ p. Makes s (p .told) (p .state)) (λ h. makes-same s)

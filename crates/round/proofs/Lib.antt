@@ -64,6 +64,8 @@ pub mod Asked
 pub mod Trying
 pub mod Tried
 pub mod Counters
-pub mod Whole
 pub mod FirstTurn
+pub mod Places
+pub mod Ways
+pub mod Whole
 pub mod CountsDown

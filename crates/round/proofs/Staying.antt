@@ -113,7 +113,7 @@ module _ (book : List ℕ) (a : Accepted book) where
     steps = routineSteps book r
 
     -- a step that goes on leads to a place of the routine
-    leaves-inside : (x : Position) (q : ℕ) → Leaves (countsOf book) steps x q → q ≤ sizeOf steps
+    pub leaves-inside : (x : Position) (q : ℕ) → Leaves (countsOf book) steps x q → q ≤ sizeOf steps
     leaves-inside x q (leads l) = leads-inside (countsOf book) steps (parse-of book a r below) (parse-pauses book a r below) (x .place) q l
     leaves-inside x q (restOver begun form) = omega (arith, standing-below (countsOf book) steps (sizeOf steps) (x .place) form)
 

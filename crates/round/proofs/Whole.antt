@@ -12,6 +12,7 @@ use Rattle.round.proofs.Misses.{misses-told}
 use Rattle.round.proofs.Asked.{asked, completed-by-finding}
 use Rattle.round.proofs.Tried.{comes, came, found, lacked}
 use Rattle.round.proofs.Counters.{contents-made}
+use Rattle.round.proofs.Ways.{stood, left-at}
 
 pub told-whole : (book : List ℕ) (a : Accepted book) (g : Game) → Fits book g → ToldWhole book g
 told-whole book a g f =
@@ -27,5 +28,7 @@ told-whole book a g f =
       completedByFinding = completed-by-finding book g;
       found = found book a g f;
       lacked = lacked book a g f;
+      stood = λ before after h r. stood book a g f r before after h;
+      left = left-at book a g f;
       contents = contents-made book a g f;
     }

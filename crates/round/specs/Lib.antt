@@ -10,6 +10,7 @@ pub mod Tells
 pub mod Timed
 pub mod Demand
 pub mod Completed
+pub mod Replay
 pub mod Whole
 pub mod Again
 pub mod Examples

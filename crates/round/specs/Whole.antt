@@ -1,31 +1,31 @@
--- The history of a round is true and leaves out no signal, mark, end or miss: each is told as often as it happened. A try is of what its
--- step asks for, and finds it exactly if that was there from the start or came before; a step without a count that asks for a thing is
--- completed only by finding it; and the steps told as completed, carried out in order on the counters before the round, give the counters
--- and numbers behind it.
-use Prim.Native.Nat.{ℕ, _+_, _-_}
+-- The history of a round is true and leaves out nothing. Carried out again in order, the steps told as completed lead each routine from
+-- where it stood to where its last turn ends, and give the counters and numbers behind the round. A signal is told for each signal step, a
+-- mark for each mark step, an end for each routine that ended and a miss for each turn that ended by one. A try is of what its step asks
+-- for, and finds it exactly if that was there from the start or came before; a step without a count that asks for a thing is completed only
+-- by finding it.
+use Prim.Native.Nat.{ℕ, _+_, _<_}
 use mathlib.Core.Path.{_≡_}
 use mathlib.Core.Bool.{Bool, true, false}
 use mathlib.Core.List.{List, [], _∷_, _++_}
 use mathlib.Core.Logic.{_⊎_, _↔_}
 use lib.Dec.{eqb}
-use lib.ListN.{length, getD, set}
-use lib.IntN.{ℤ, pos}
-use Rattle.numbers.specs.Choice.{if_then_else_}
-use Rattle.numbers.specs.Numbers.{sumOf, countOf}
-use Rattle.kinds.specs.Steps.{opAt, fieldA, fieldB, fieldN}
+use lib.ListN.{length}
+use Rattle.kinds.specs.Steps.{opAt}
 use Rattle.forms.specs.Timed.{Timed}
-use Rattle.directory.specs.Directory.{routineSteps, routineStep}
+use Rattle.directory.specs.Directory.{stepCount, routineSteps, routineStep}
+use Rattle.game.specs.declared.Routine.{Routine}
 use Rattle.game.specs.declared.Game.{Game}
 use Rattle.game.specs.Game.{routineAt}
 use Rattle.game.specs.Game as stage
 use Rattle.round.specs.declared.Ending.the-variants.{Ended, Rested, Missed, Continued}
-use Rattle.round.specs.State.{Thing, Happening, gave, ended, missing, past, marked, completed, numbersWith, isThere}
+use Rattle.round.specs.State.{Thing, Happening, gave, ended, missing, past, marked, completed, isThere}
 use Rattle.round.specs.History.{howMany, Somewhere, Among}
 use Rattle.round.specs.Actions.{kept, atStart}
 use Rattle.round.specs.Rounds.{Turn, passedOver, took, listedIn, round, historyOf}
-use Rattle.round.specs.Demand.{opSignalNumber, isSignalStep, givesSignal, endsRoutine, AsksFor, Comes}
+use Rattle.round.specs.Demand.{isSignalStep, givesSignal, endsRoutine, AsksFor, Comes}
 use Rattle.round.specs.Answers.{marksIn}
-use Rattle.round.specs.Completed.{completes, isMarkStep, opAdd, opTake}
+use Rattle.round.specs.Completed.{completes, isMarkStep}
+use Rattle.round.specs.Replay.{leftBy, contentsAfter, placeAfter}
 
 -- a try finds its thing missing
 abbrev pub isMiss : Happening → Bool
@@ -46,45 +46,11 @@ missesOf (took Rested ∷ ts) = missesOf ts
 missesOf (took Missed ∷ ts) = missesOf ts + 1
 missesOf (took Continued ∷ ts) = missesOf ts + 1
 
--- "1 set", "12 read"
-abbrev pub opSet : ℕ
-opSet = 1
-
-abbrev pub opRead : ℕ
-opRead = 12
-
--- the counters, and the numbers given so far, in order, each behind its signal
-abbrev pub Contents : Type 0
-Contents = List ℤ × List (ℕ × ℤ)
-
--- what a step with these fields makes of them
-unfoldable pub madeBy : ℕ → ℕ → ℕ → ℤ → Contents → Contents
-madeBy op a b n (counters, numbers) =
-    let content : ℕ → ℤ = λ c. getD counters c (pos 0) in
-    -- "counter becomes n"
-    if eqb op opSet then (set counters a n, numbers)
-    -- "n is added"; "An addition beyond an end gives that end."
-    else if eqb op opAdd then (set counters a (sumOf (content a) n .sum), numbers)
-    -- "b's content is added to a"
-    else if eqb op opTake then (set counters a (sumOf (content a) (content b) .sum), numbers)
-    -- "rule 13, with b's content"
-    else if eqb op opSignalNumber then (counters, numbers ++ ((a, content b) ∷ []))
-    -- "n = k, 1 to 64", "the k-th number goes to b"
-    else if eqb op opRead then (set counters b (getD (numbersWith a numbers) (countOf n - 1) (pos 0)), numbers)
-    -- any other step changes neither
-    else (counters, numbers)
-
--- what the steps told as completed make of them, in order; nothing else that happens changes them
-unfoldable pub contentsAfter : List ℕ → List Happening → Contents → Contents
-contentsAfter book [] c = c
-contentsAfter book (gave e k ∷ told) c = contentsAfter book told c
-contentsAfter book (ended r ∷ told) c = contentsAfter book told c
-contentsAfter book (missing r p t ∷ told) c = contentsAfter book told c
-contentsAfter book (past r p t ∷ told) c = contentsAfter book told c
-contentsAfter book (marked r n ∷ told) c = contentsAfter book told c
-contentsAfter book (completed r p ∷ told) c =
-    let steps = routineSteps book r in
-    contentsAfter book told (madeBy (opAt steps p) (fieldA steps p) (fieldB steps p) (fieldN steps p) c)
+-- routine r, whose last turn has come to place p, is left as x: at rest there, or ended behind its last step
+pub data LeftAt (book : List ℕ) (r p : ℕ) (x : Routine) : Type 0 where
+  rests : x .stage ≡ stage.rested → p < stepCount book r → x .place ≡ leftBy (opAt (routineSteps book r) p) p → LeftAt book r p x
+  -- "An ended routine's place is its step count."
+  ends : x .stage ≡ stage.ended → p ≡ stepCount book r → x .place ≡ stepCount book r → LeftAt book r p x
 
 -- in a round from game g
 pub record ToldWhole (book : List ℕ) (g : Game) : Type 0 where
@@ -122,6 +88,16 @@ pub record ToldWhole (book : List ℕ) (g : Game) : Type 0 where
   pub lacked :
       (before after : List Happening) (r p : ℕ) (t : Thing) → historyOf book g ≡ before ++ (missing r p t ∷ after) →
       (isThere (atStart g) t ≡ false) × (Somewhere (Comes t) before → ⊥)
+  -- a step is completed, or its thing is found missing, where its routine stands by what is told before: no step is left out
+  pub stood :
+      (before after : List Happening) (h : Happening) (r p : ℕ) → historyOf book g ≡ before ++ (h ∷ after) →
+      (h ≡ completed r p) ⊎ ((t : Thing) × (h ≡ missing r p t)) →
+      placeAfter book r before (g .counters, []) (routineAt g r .place) ≡ p
+  -- where a listed routine that isn't suspended stands by all that is told, there its last turn ends
+  pub left :
+      (r : ℕ) → Among r (listedIn g) → routineAt (atStart g .game) r .suspended ≡ false →
+      LeftAt book r (placeAfter book r (historyOf book g) (g .counters, []) (routineAt g r .place))
+      (routineAt (round book g .played .state .game) r)
   -- the steps told as completed, carried out on the counters before the round with no number given yet, give those behind it
   pub contents :
       let last = round book g .played .state in

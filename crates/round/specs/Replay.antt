@@ -1,0 +1,97 @@
+-- What a round tells, carried out again in order by document 01's table: the counters, the numbers given, and where a routine stands.
+use Prim.Native.Nat.{ℕ, _+_, _-_}
+use mathlib.Core.Bool.{_||_}
+use mathlib.Core.List.{List, [], _∷_, _++_}
+use lib.Dec.{eqb}
+use lib.ListN.{getD, set}
+use lib.IntN.{ℤ, pos}
+use Rattle.numbers.specs.Choice.{if_then_else_}
+use Rattle.numbers.specs.Numbers.{sumOf, relationOf, countOf}
+use Rattle.kinds.specs.Steps.{opAt, fieldA, fieldB, fieldN}
+use Rattle.partners.specs.Partners.{opIf, opElse, opWhile, opEnd}
+use Rattle.directory.specs.Directory.{routineSteps}
+use Rattle.round.specs.State.{Happening, gave, ended, missing, past, marked, completed, numbersWith}
+use Rattle.round.specs.Jumps.{pastPartner, fromEnd}
+use Rattle.round.specs.Demand.{opSignalNumber}
+use Rattle.round.specs.Completed.{opAdd, opTake}
+
+-- "1 set", "6 rest", "12 read"
+abbrev pub opSet : ℕ
+opSet = 1
+
+abbrev pub opRest : ℕ
+opRest = 6
+
+abbrev pub opRead : ℕ
+opRead = 12
+
+-- the counters, and the numbers given so far, in order, each behind its signal
+abbrev pub Contents : Type 0
+Contents = List ℤ × List (ℕ × ℤ)
+
+-- what a step with these fields makes of them
+unfoldable pub madeBy : ℕ → ℕ → ℕ → ℤ → Contents → Contents
+madeBy op a b n (counters, numbers) =
+    let content : ℕ → ℤ = λ c. getD counters c (pos 0) in
+    -- "counter becomes n"
+    if eqb op opSet then (set counters a n, numbers)
+    -- "n is added"; "An addition beyond an end gives that end."
+    else if eqb op opAdd then (set counters a (sumOf (content a) n .sum), numbers)
+    -- "b's content is added to a"
+    else if eqb op opTake then (set counters a (sumOf (content a) (content b) .sum), numbers)
+    -- "rule 13, with b's content"
+    else if eqb op opSignalNumber then (counters, numbers ++ ((a, content b) ∷ []))
+    -- "n = k, 1 to 64", "the k-th number goes to b"
+    else if eqb op opRead then (set counters b (getD (numbersWith a numbers) (countOf n - 1) (pos 0)), numbers)
+    -- any other step changes neither
+    else (counters, numbers)
+
+-- where a step with these fields, at place p of a routine, leads once it is completed, with these counters
+unfoldable pub leadsTo : List ℕ → ℕ → ℕ → ℕ → ℕ → ℤ → List ℤ → ℕ
+leadsTo steps p op a b n counters =
+    -- "counter against n": into the block where that holds, and otherwise past it
+    if eqb op opIf || eqb op opWhile
+    then (if eqb (relationOf b (getD counters a (pos 0)) n) 1 then p + 1 else pastPartner steps p)
+    -- "A place on an else stands for the end of the first block, on a while's end for its next test."
+    else if eqb op opElse then pastPartner steps p
+    else if eqb op opEnd then fromEnd steps p
+    -- any other to the step that follows it
+    else p + 1
+
+-- "Op 6, or a reading that stayed missing, leaves the place on the step that follows it in the book; every other pause leaves it on its own
+-- step."
+abbrev pub leftBy : ℕ → ℕ → ℕ
+leftBy op p = if eqb op opRest || eqb op opRead then p + 1 else p
+
+-- a function of a step's fields, at place p
+abbrev pub atStep {ℓ} : {A : Type ℓ} → (ℕ → ℕ → ℕ → ℤ → A) → List ℕ → ℕ → A
+atStep f steps p = f (opAt steps p) (fieldA steps p) (fieldB steps p) (fieldN steps p)
+
+module _ (book : List ℕ) where
+  -- what one thing that happened makes of the contents: only a step that is completed changes them
+  abbrev pub madeOf : Happening → Contents → Contents
+  madeOf (gave e k) c = c
+  madeOf (ended r) c = c
+  madeOf (missing r p t) c = c
+  madeOf (past r p t) c = c
+  madeOf (marked r n) c = c
+  madeOf (completed r p) c = atStep madeBy (routineSteps book r) p c
+
+  -- and what all that is told makes of them, in order
+  unfoldable pub contentsAfter : List Happening → Contents → Contents
+  contentsAfter [] c = c
+  contentsAfter (h ∷ told) c = contentsAfter told (madeOf h c)
+
+  -- where one thing that happened leads routine r from place p, with these contents: only a step of its own that is completed moves it
+  abbrev pub ledBy : ℕ → Happening → Contents → ℕ → ℕ
+  ledBy r (gave e k) c p = p
+  ledBy r (ended q) c p = p
+  ledBy r (missing q o t) c p = p
+  ledBy r (past q o t) c p = p
+  ledBy r (marked q n) c p = p
+  ledBy r (completed q o) c p = let steps = routineSteps book r in if eqb q r then atStep (leadsTo steps p) steps p (c .0) else p
+
+  -- and where all that is told leads it
+  unfoldable pub placeAfter : ℕ → List Happening → Contents → ℕ → ℕ
+  placeAfter r [] c p = p
+  placeAfter r (h ∷ told) c p = placeAfter r told (madeOf h c) (ledBy r h c p)
