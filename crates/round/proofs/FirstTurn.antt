@@ -5,7 +5,7 @@ use Prim.Native.Nat.{ℕ, _<_}
 use mathlib.Core.Path.{_≡_, refl, sym, ap, _∙_, subst}
 use mathlib.Core.Bool.{true, false}
 use mathlib.Core.List.{List, [], _∷_, _++_}
-use mathlib.Core.Logic.{_⊎_, inl, inr, ⊎-elim}
+use mathlib.Core.Logic.{_⊎_, inl, inr, ⊎-elim, _≢_}
 use native.Mathlib.Decide.{ℕ-discrete}
 use native.Mathlib.Omega.{arith}
 use Rattle.numbers.proofs.Tests.{by-flag}
@@ -55,6 +55,10 @@ module _ (P : Happening → Type 0) where
   told-at (h ∷ told) (inl p) = (h, [], told, p, refl)
   told-at (h ∷ told) (inr w) = let (k, b, c, p, e) = told-at told w in (k, h ∷ b, c, p, ap (λ l. h ∷ l) e)
 
+-- a claim on any routine q, from one on routine r and one on q if it is another
+pub own-or-other : (P : ℕ → Type 0) (r q : ℕ) → P r → (r ≢ q → P q) → P q
+own-or-other P r q own other = elim (ℕ-discrete r q) [ yes e ↦ subst P e own | no n ↦ other n ]
+
 -- routine r, where it stands when the passes begin
 module _ (g : Game) (r : ℕ) where
   abbrev pub standsFirst : Position
@@ -78,10 +82,9 @@ module _ (book : List ℕ) (a : Accepted book) (g : Game) (f : Fits book g) (r :
     where
       each-turn :
           (q : ℕ) (s : State) → q < routinesOf book → Sound book s → Claim s (turn book q s .told) (turn book q s .state)
-      each-turn q s l ok = elim (ℕ-discrete r q) [
-        | yes e ↦ subst (λ i. i < routinesOf book → Claim s (turn book i s .told) (turn book i s .state)) e (λ m. own s m ok) l
-        | no n ↦ let turned = turn-turned book a q s l ok in others s _ _ (turned .standings .others r n) (turned .keeps)
-      ]
+      each-turn q s l ok =
+          own-or-other (λ i. i < routinesOf book → Claim s (turn book i s .told) (turn book i s .state)) r q (λ m. own s m ok)
+          (λ n m. let turned = turn-turned book a q s m ok in others s _ _ (turned .standings .others r n) (turned .keeps)) l
 
       pub round-of-one : Claim (atStart g) (historyOf book g) (back book g)
       round-of-one =

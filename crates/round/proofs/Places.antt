@@ -14,7 +14,7 @@ use Rattle.kinds.specs.declared.Step.{Step}
 use Rattle.kinds.specs.declared.Step.the-variants as step
 use Rattle.kinds.specs.declared.Counts.{Counts}
 use Rattle.kinds.specs.Steps.{opAt, stepAt}
-use Rattle.kinds.proofs.Readable.{step-below}
+use Rattle.kinds.proofs.Readable.{kind-not-refused, step-below}
 use Rattle.layout.specs.Layout.{routinesOf, countsOf}
 use Rattle.directory.specs.Directory.{stepCount, routineSteps}
 use Rattle.book.specs.Accepted.{Accepted}
@@ -138,16 +138,11 @@ module _ (book : List ℕ) (r : ℕ) where
     Halted p Missed y = (p < stepCount book r) × (y .place ≡ leftBy (opAt steps p) p)
     Halted p Continued y = y .place ≡ p
 
-    -- a step stands everywhere but behind the last
-    none-behind : (p : ℕ) → stepAt (countsOf book) steps p ≡ step.Refused → p ≤ sizeOf steps → p ≡ stepCount book r
-    none-behind p none inside =
+    -- where no step stands, it is behind the last
+    behind-last : (p : ℕ) → stepAt (countsOf book) steps p ≡ step.Refused → p ≤ sizeOf steps → p ≡ stepCount book r
+    behind-last p none inside =
         elim (decLt p (stepCount book r)) [
-          | yes l ↦
-              let (k, e) = shown-kind book a r below p l in
-              let kind : stepAt (countsOf book) steps p ≡ step.Kind k = subst (λ (part : List ℕ). stepAt (countsOf book) part p ≡ step.Kind k)
-              (shown-routine book a r below) e in
-              let z : _≡_ {A = ℕ} 0 1 = cc in
-              absurd (omega arith)
+          | yes l ↦ let (k, e) = rw (shown-routine book a r below) at (shown-kind book a r below p l) in absurd (kind-not-refused (sym e ∙ none))
           | no n ↦ omega (arith, size-same book a r below)
         ]
 
@@ -166,7 +161,7 @@ module _ (book : List ℕ) (r : ℕ) where
         by (step.Kind k) e h = stopped k (omega (arith, step-below (countsOf book) steps (x .place) e, size-same book a r below)) how h
         by step.Refused e (h, k) =
             subst (λ w. Halted (x .place) w y) (sym h)
-            (none-behind (x .place) e inside, ap (λ (w : Position). w .place) k ∙ size-same book a r below)
+            (behind-last (x .place) e inside, ap (λ (w : Position). w .place) k ∙ size-same book a r below)
 
     -- the steps of a turn of its own
     abbrev Own : Position → State → Ticks → Type 0

@@ -1,16 +1,14 @@
 -- A routine's way through a round: it stands where the steps that are told lead it, and its last turn ends where it has come to. So it is
 -- behind each turn, its own by what the turn's steps do (Places.antt); and a listed routine that is not suspended takes a turn while it is
 -- in stage 1, so in the end it is left where it came to.
-use Prim.Native.Nat.{ℕ, _<_, _≤_}
+use Prim.Native.Nat.{ℕ, _<_}
 use mathlib.Core.Path.{_≡_, refl, sym, ap, _∙_, subst}
 use mathlib.Core.Bool.{true, false, or-true}
 use mathlib.Core.List.{List, [], _∷_, _++_}
 use mathlib.Core.Logic.{_⊎_, inl, inr, _≢_}
-use native.Mathlib.Decide.{ℕ-discrete}
 use native.Mathlib.Omega.{arith}
 use Rattle.numbers.proofs.Tests.{clash}
 use Rattle.layout.specs.Layout.{routinesOf}
-use Rattle.directory.specs.Directory.{routineSteps}
 use Rattle.book.specs.Accepted.{Accepted}
 use Rattle.game.specs.declared.Routine.{Routine}
 use Rattle.game.specs.declared.Game.{Game}
@@ -22,7 +20,6 @@ use Rattle.round.specs.declared.Position.{Position}
 use Rattle.round.specs.State.{State, Thing, Happening, missing, completed}
 use Rattle.round.specs.History.{Among}
 use Rattle.round.specs.Actions.{positionOf, placed, atStart}
-use Rattle.round.specs.Jumps.{sizeOf}
 use Rattle.round.specs.Rounds.{stageAfter, listedIn, ticksOf, turn, historyOf}
 use Rattle.round.specs.Replay.{placeAfter}
 use Rattle.round.specs.Whole.{LeftAt}
@@ -36,7 +33,7 @@ use Rattle.round.proofs.Turned.{turn-turned}
 use Rattle.round.proofs.Actions.{at-start-positions}
 use Rattle.round.proofs.After.{back, round-along}
 use Rattle.round.proofs.Demand.{none-lost, demand-3}
-use Rattle.round.proofs.FirstTurn.{due-first}
+use Rattle.round.proofs.FirstTurn.{own-or-other, due-first}
 use Rattle.round.proofs.Counters.{contentsOf, Makes, makes-same, makes-both, turn-makes}
 use Rattle.round.proofs.Places.{Here, InPlace, in-second, walked, turn-aside, Halted, own-ticks}
 
@@ -104,6 +101,13 @@ module _ (book : List ℕ) (r : ℕ) where
       stands-halted Missed y x p out (l, e) = (λ h. clash h (rw or-true), λ d h. LeftAt.rests refl l e)
       stands-halted Continued y x p out e = (λ h. e, λ d h. clash (rw out) h)
 
+      -- what the steps of its turn come to from place p
+      abbrev Came : State → ℕ → Type 0
+      Came s p =
+          let t = ticksOf book r s in
+          InPlace book r (t .told) (contentsOf s) p ×
+          Halted book r a below (placeAfter book r (t .told) (contentsOf s) p) (t .ending) (t .position)
+
       walks-own : (s : State) → Sound book s → Walks s (turn book r s .told) (turn book r s .state)
       walks-own s ok =
           let x = routineAt (s .game) r in
@@ -116,12 +120,10 @@ module _ (book : List ℕ) (r : ℕ) where
             end-keeps (Makes book s (t .told)) (t .ending) r _ (λ k. k) makes,
             λ few p stand.
                 let here = end-keeps (λ u. u .tooMany ≡ false → t .state .tooMany ≡ false) (t .ending) r _ (λ k. k) (λ k. k) few in
-                let inside : x .place ≤ sizeOf (routineSteps book r) = omega (arith, ok .fits .placesInRange r below, size-same book a r below) in
-                let Came : ℕ → Type 0 =
-                λ o. InPlace book r (t .told) (contentsOf s) o × Halted book r a below (placeAfter book r (t .told) (contentsOf s) o) (t .ending) (t .position)
-                in
-                let (in-place, stop) = subst Came (stand .0 h) (own here inside) in
-                (in-place, rw (routine-after r s t standing h) (stands-halted (t .ending) (t .position) (routineAt (t .state .game) r) _ out stop)),
+                let inside = ok .fits .placesInRange r below in
+                let (in-place, stop) = subst (Came s) (stand .0 h) (own here (omega (arith, inside, size-same book a r below))) in
+                let left = stands-halted (t .ending) (t .position) (routineAt (t .state .game) r) _ out stop in
+                (in-place, rw (routine-after r s t standing h) left),
           ))
 
 -- one that rests or has ended takes no turn
@@ -138,12 +140,10 @@ module _ (book : List ℕ) (a : Accepted book) (g : Game) (f : Fits book g) (r :
   each-turn :
       (q : ℕ) (s : State) → (q < routinesOf book) × Among q (listedIn g) → Sound book s →
       Walks book r Plays s (turn book q s .told) (turn book q s .state)
-  each-turn q s (l, _) ok = elim (ℕ-discrete r q) [
-    | yes e ↦
-        subst (λ i. i < routinesOf book → Walks book r Plays s (turn book i s .told) (turn book i s .state)) e
-        (λ m. walks-own book r Plays a m s ok) l
-    | no n ↦ walks-aside book r Plays q s (λ e. n (sym e)) (turn-turned book a q s l ok .standings .others r n)
-  ]
+  each-turn q s (l, _) ok =
+      own-or-other (λ i. i < routinesOf book → Walks book r Plays s (turn book i s .told) (turn book i s .state)) r q
+      (λ m. walks-own book r Plays a m s ok)
+      (λ n m. walks-aside book r Plays q s (λ e. n (sym e)) (turn-turned book a q s m ok .standings .others r n)) l
 
   abbrev first : ℕ
   first = routineAt g r .place

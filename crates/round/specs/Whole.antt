@@ -76,7 +76,8 @@ pub record ToldWhole (book : List ℕ) (g : Game) : Type 0 where
   pub asked :
       (r p : ℕ) (t : Thing) → Somewhere (λ h. (h ≡ missing r p t) ⊎ (h ≡ past r p t)) (historyOf book g) →
       AsksFor (routineStep book r p) t
-  -- "finds the thing and completes the step": a step of op 8, 10 or 12 is completed only so; a timed one also with none left
+  -- "finds the thing and completes the step": a step of op 8, 10 or 12 is completed only so; one of op 9 or 11 goes on with none left, too,
+  -- which is Timed.antt's claim
   pub completedByFinding :
       (before after : List Happening) (r p : ℕ) (t : Thing) → historyOf book g ≡ before ++ (completed r p ∷ after) →
       AsksFor (routineStep book r p) t → ((n : ℕ) → Timed (routineStep book r p) n → ⊥) →
