@@ -44,6 +44,10 @@ end-keeps P Rested r s over h = h
 end-keeps P Missed r s over h = h
 end-keeps P Continued r s over h = h
 
+-- a number too many is noted by the steps alone
+pub after-few : (r : ℕ) (t : Ticks) → afterTurn r t .tooMany ≡ false → t .state .tooMany ≡ false
+after-few r t = end-keeps (λ u. u .tooMany ≡ false → t .state .tooMany ≡ false) (t .ending) r _ (λ h. h) (λ h. h)
+
 -- a turn that is passed over in state s, and one of routine r that takes these steps
 abbrev passed : State → Played
 passed s = record { state = s; told = []; turns = passedOver ∷ [] }

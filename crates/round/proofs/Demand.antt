@@ -30,6 +30,7 @@ use Rattle.round.proofs.Telling.{round-told-only, answer-verdict, accep
 use Rattle.round.proofs.Sound.{Sound}
 use Rattle.round.proofs.Starting.{listed-below, at-start-sound, among-listed}
 use Rattle.round.proofs.Passes.{FairRound, fair-round}
+use Rattle.round.proofs.TurnLaws.{isGoing}
 use Rattle.round.proofs.Lawful.{turn-laws}
 use Rattle.round.proofs.Enough.{enough}
 use Rattle.round.proofs.Once.{completed-once}
@@ -57,6 +58,10 @@ module _ (book : List ℕ) (a : Accepted book) (g : Game) (f : Fits book g) wher
       fair-round (turn-laws book a) (listedIn g) (listed-below book g a f) mostPasses (atStart g) start-sound refl refl
       (enough book a g f .passes)
 
+  -- no listed routine is left to take a turn
+  pub none-going : (r : ℕ) → Among r (listedIn g) → isGoing last r ≡ false
+  none-going = fair .noneGoing
+
   -- no more numbers are given than are kept, so every one that is told is there
   pub none-lost : last .tooMany ≡ false
   none-lost = too-many book g ∙ le-ltb _ _ (completed-once book a g f .numbers)
@@ -70,7 +75,7 @@ module _ (book : List ℕ) (a : Accepted book) (g : Game) (f : Fits book g) wher
       let (k, l, e) = among-listed book g a f r i in
       let lower : r < routinesOf book = subst (λ q. q < routinesOf book) e (start-sound .fits .entriesInRange .0 k l) in
       let here : In (last .game .listed) r = rw (kept .listed) (k, l, e) in
-      let off = fair .noneGoing r i in
+      let off = none-going r i in
       rests-or-ends (routineAt (last .game) r .stage) (fits .stagesInRange r lower)
       (λ on. clash refl (rw (kept .suspended r ∙ unsuspended, eq-eqb _ _ on) at off))
       (λ out. fits .unlistedStages r lower out here)

@@ -7,14 +7,13 @@ use mathlib.Core.Bool.{true, false}
 use mathlib.Core.List.{List, [], _∷_, _++_}
 use mathlib.Core.Logic.{_⊎_, inl, inr, ⊎-elim, _≢_}
 use native.Mathlib.Decide.{ℕ-discrete}
-use native.Mathlib.Omega.{arith}
-use Rattle.numbers.proofs.Tests.{by-flag}
+use Rattle.numbers.proofs.Tests.{clash, by-flag}
 use Rattle.kinds.specs.Steps.{stepAt}
 use Rattle.layout.specs.Layout.{routinesOf, countsOf}
 use Rattle.directory.specs.Directory.{routineSteps}
 use Rattle.book.specs.Accepted.{Accepted}
 use Rattle.game.specs.declared.Game.{Game}
-use Rattle.game.specs.Game.{continuing, routineAt}
+use Rattle.game.specs.Game.{routineAt}
 use Rattle.fitting.specs.Fits.{Fits}
 use Rattle.round.specs.declared.Position.{Position}
 use Rattle.round.specs.State.{State, Thing, Happening, missing, completed, isThere}
@@ -29,12 +28,11 @@ use Rattle.round.proofs.After.{back, round-along}
 use Rattle.round.proofs.Sound.{Sound}
 use Rattle.round.proofs.Starting.{among-listed, listed-stage}
 use Rattle.round.proofs.Standings.{SameStanding, same-standing}
-use Rattle.round.proofs.AfterTurn.{going-parts}
 use Rattle.round.proofs.Turned.{turn-turned}
 use Rattle.round.proofs.Again.{misses-again, goes-past}
 use Rattle.round.proofs.Closing.{there-again}
 use Rattle.round.proofs.CatchingUp.{never-missing}
-use Rattle.round.proofs.Demand.{demand-3}
+use Rattle.round.proofs.Demand.{none-going, demand-3}
 use Rattle.round.proofs.Tried.{came, lacked}
 
 -- what is there in state s is there in state u
@@ -96,10 +94,7 @@ module _ (book : List ℕ) (a : Accepted book) (g : Game) (f : Fits book g) (r :
     due-first = (rw (unsuspended, listed-stage book g a f r (among-listed book g a f r inside)), refl)
 
     pub due-last : Due g r (back book g) → ⊥
-    due-last due =
-        let x = routineAt (back book g .game) r in
-        let on : x .stage ≡ continuing = going-parts (x .suspended) _ (due .0) .1 in
-        ⊎-elim (λ e. omega (arith, on, e)) (λ e. omega (arith, on, e)) (demand-3 book a g f .restedOrEnded r inside unsuspended)
+    due-last due = clash (due .0) (none-going book a g f r inside)
 
     -- what each such turn tells, the round tells
     pub told-then :

@@ -63,8 +63,9 @@ pub mod Misses
 pub mod Asked
 pub mod Trying
 pub mod Tried
-pub mod Counters
+pub mod Replays
 pub mod FirstTurn
+pub mod Untold
 pub mod Places
 pub mod Ways
 pub mod Whole

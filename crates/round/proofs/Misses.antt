@@ -1,4 +1,4 @@
--- A round's history tells a miss for each turn that came to a step whose thing was missing, and no other. The steps of a turn that went on
+-- A round's history tells a miss for each turn that ended because its thing was missing, and no other. The steps of a turn that went on
 -- tell none, and the last one tells one exactly where it halts the turn for that reason; then turn by turn and pass by pass.
 use Prim.Native.Nat.{ℕ, _+_, _<_}
 use mathlib.Core.Path.{_≡_, refl, ap, _∙_}

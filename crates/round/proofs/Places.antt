@@ -1,20 +1,20 @@
--- The steps of a turn lead its routine along the places that the table's rows say (Counters.antt): each is completed, or finds its thing
--- missing, where the routine then stands, and the turn halts where it has come to. A turn of another routine tells nothing of this one, and
--- a stretch goes on where the one before it ended.
+-- The steps of a turn lead its routine from place to place (Replays.antt): each is completed, or finds its thing missing, where the routine
+-- then stands, and the turn halts where it has come to. What is told of other routines moves it nowhere.
 use Prim.Native.Nat.{ℕ, _<_, _≤_}
 use mathlib.Core.Path.{_≡_, refl, sym, ap, _∙_, subst}
 use mathlib.Core.Bool.{false}
 use mathlib.Core.List.{List, [], _∷_, _++_}
-use mathlib.Core.Logic.{_≢_}
+use mathlib.Core.Logic.{_⊎_, inl}
 use native.Mathlib.Decide.{decLt}
 use native.Mathlib.Omega.{arith}
-use borrow.Author.Tests.{eq-eqb, ne-eqb}
+use borrow.Author.Tests.{eq-eqb}
+use Rattle.numbers.proofs.Tests.{clash}
 use Rattle.kinds.specs.declared.Kind.{Kind}
 use Rattle.kinds.specs.declared.Step.{Step}
 use Rattle.kinds.specs.declared.Step.the-variants as step
 use Rattle.kinds.specs.declared.Counts.{Counts}
 use Rattle.kinds.specs.Steps.{opAt, stepAt}
-use Rattle.kinds.proofs.Readable.{kind-not-refused, step-below}
+use Rattle.kinds.proofs.Readable.{kind-not-refused}
 use Rattle.layout.specs.Layout.{routinesOf, countsOf}
 use Rattle.directory.specs.Directory.{stepCount, routineSteps}
 use Rattle.book.specs.Accepted.{Accepted}
@@ -24,21 +24,24 @@ use Rattle.round.specs.declared.Ending.the-variants.{Ended, Rested, Miss
 use Rattle.round.specs.declared.Position.{Position}
 use Rattle.round.specs.declared.Effect.{Effect}
 use Rattle.round.specs.declared.Act.the-variants.{Halts}
-use Rattle.round.specs.State.{State, Happening, gave, ended, missing, past, marked, completed}
+use Rattle.round.specs.State.{State, Thing, Happening, gave, ended, missing, past, marked, completed}
+use Rattle.round.specs.History.{howMany, Somewhere}
 use Rattle.round.specs.Jumps.{sizeOf}
 use Rattle.round.specs.Ticks.{telling, tick, effectOn}
-use Rattle.round.specs.Rounds.{Ticks, ticks, turn}
-use Rattle.round.specs.Replay.{Contents, leftBy, atStep, leadsTo, madeOf, contentsAfter, ledBy, placeAfter}
+use Rattle.round.specs.Rounds.{Ticks, ticks}
+use Rattle.round.specs.Replay.{opRest, opRestFor, Contents, leftBy, atStep, leadsTo, madeOf, contentsAfter, ledBy, placeAfter}
+use Rattle.round.specs.Whole.{isOf}
 use Rattle.round.proofs.Acts.{Says, silent, marks, gives, givesNumber, finds, Stops, ends, rests, misses, continues}
-use Rattle.round.proofs.Stepping.{ticks-by, ticks-along}
+use Rattle.round.proofs.Histories.{none-of-all, in-second as later}
+use Rattle.round.proofs.Stepping.{ticks-by}
 use Rattle.round.proofs.Parsed.{size-same}
-use Rattle.round.proofs.AfterTurn.{turn-by}
 use Rattle.round.proofs.Staying.{leaves-inside}
-use Rattle.round.proofs.Counters.{contentsOf, Makes, makes-same, makes-both, goes-agrees, HaltsAt, halts-agrees}
+use Rattle.round.proofs.Untold.{Untold}
+use Rattle.round.proofs.Replays.{contentsOf, Makes, makes-same, makes-both, goes-agrees, HaltsAt, halts-agrees}
 
 -- routine r
 module _ (book : List ℕ) (r : ℕ) where
-  -- what happened is not of r, or happened where r stands
+  -- a step that is completed, or whose thing is found missing, is not r's or is where r stands
   abbrev pub Here : Happening → ℕ → Type 0
   Here (gave e k) p = Unit {0}
   Here (ended q) p = Unit {0}
@@ -51,7 +54,7 @@ module _ (book : List ℕ) (r : ℕ) where
   InPlace [] c p = Unit {0}
   InPlace (h ∷ told) c p = Here h p × InPlace told (madeOf book h c) (ledBy book r h c p)
 
-  -- one stretch after another
+  -- some of what is told, and then more
   place-append :
       (a b : List Happening) (c : Contents) (p : ℕ) →
       placeAfter book r (a ++ b) c p ≡ placeAfter book r b (contentsAfter book a c) (placeAfter book r a c p)
@@ -66,13 +69,13 @@ module _ (book : List ℕ) (r : ℕ) where
   in-both [] b c p one two = two
   in-both (h ∷ a) b c p one two = (one .0, in-both a b (madeOf book h c) (ledBy book r h c p) (one .1) two)
 
-  pub in-second :
+  pub in-rest :
       (a b : List Happening) (c : Contents) (p : ℕ) → InPlace (a ++ b) c p → InPlace b (contentsAfter book a c) (placeAfter book r a c p)
   unfolding placeAfter contentsAfter
-  in-second [] b c p all = all
-  in-second (h ∷ a) b c p all = in-second a b (madeOf book h c) (ledBy book r h c p) (all .1)
+  in-rest [] b c p all = all
+  in-rest (h ∷ a) b c p all = in-rest a b (madeOf book h c) (ledBy book r h c p) (all .1)
 
-  -- a stretch that leads to place q and contents d, and one from there
+  -- the first leads to place q and contents d, and the rest goes on from there
   pub walked :
       (a b : List Happening) (c d : Contents) (p q : ℕ) → d ≡ contentsAfter book a c → placeAfter book r a c p ≡ q →
       InPlace a c p → InPlace b d q → InPlace (a ++ b) c p × (placeAfter book r (a ++ b) c p ≡ placeAfter book r b d q)
@@ -82,61 +85,56 @@ module _ (book : List ℕ) (r : ℕ) where
   )
 
   -- what is told moves r nowhere
-  abbrev Aside : List Happening → Type 0
-  Aside told = (c : Contents) (p : ℕ) → InPlace told c p × (placeAfter book r told c p ≡ p)
+  abbrev Still : List Happening → Type 0
+  Still told = (c : Contents) (p : ℕ) → InPlace told c p × (placeAfter book r told c p ≡ p)
 
-  aside-both : (a b : List Happening) → Aside a → Aside b → Aside (a ++ b)
-  aside-both a b one two c p =
-      let (first, still) = one c p in
-      let (second, then) = two (contentsAfter book a c) (placeAfter book r a c p) in
-      (in-both a b c p first second, place-append a b c p ∙ then ∙ still)
-
-  says-aside :
+  -- what a step of any routine tells beside that it is completed
+  says-still :
       {counts : Counts} {q : ℕ} {steps : List ℕ} {x : Position} {s : State} {e : Effect} {told : List Happening} →
-      Says counts q steps x s e told → Aside told
+      Says counts q steps x s e told → Still told
   unfolding placeAfter
-  says-aside (silent g o) c p = (tt, refl)
-  says-aside (marks o) c p = ((tt, tt), refl)
-  says-aside (gives o) c p = ((tt, tt), refl)
-  says-aside (givesNumber o) c p = ((tt, tt), refl)
-  says-aside (finds g o k h) c p = ((tt, tt), refl)
+  says-still (silent g o) c p = (tt, refl)
+  says-still (marks o) c p = ((tt, tt), refl)
+  says-still (gives o) c p = ((tt, tt), refl)
+  says-still (givesNumber o) c p = ((tt, tt), refl)
+  says-still (finds g o k h) c p = ((tt, tt), refl)
 
-  -- a turn of another routine tells nothing of r
-  module _ (q : ℕ) (other : q ≢ r) where
-    goes-aside : (o : ℕ) (told : List Happening) → Aside told → Aside (completed q o ∷ told)
-    unfolding placeAfter
-    goes-aside o told rest c p =
-        let made = madeOf book (completed q o) c in
-        rw (ne-eqb q r other) (((λ e. absurd (other e)), rest made p .0), rest made p .1)
-
-    stops-aside :
-        {counts : Counts} {steps : List ℕ} {x : Position} {s : State} {how : Ending} {y : Position} {told : List Happening} →
-        Stops counts q steps x s how y told → Aside told
-    unfolding placeAfter
-    stops-aside ends c p = ((tt, tt), refl)
-    stops-aside rests c p = (tt, refl)
-    stops-aside (misses k h e) c p = (((λ d. absurd (other d)), tt), refl)
-    stops-aside (continues k h e) c p = (((λ d. absurd (other d)), tt), refl)
-
-    pub turn-aside : (s : State) → Aside (turn book q s .told)
-    unfolding placeAfter
-    turn-aside s =
-        let all =
-        ticks-along (countsOf book) q (routineSteps book q) (λ s told u. Aside told) (λ s c p. (tt, refl)) (λ s u v. aside-both)
-        (λ x s e told right says. goes-aside (x .place) told (says-aside says)) (λ x s how y told stops. stops-aside stops) in
-        turn-by book q s (λ d. Aside (d .told)) (λ h c p. (tt, refl)) (λ h. all _ _ s)
+  -- what is told of others alone
+  pub untold-still : (told : List Happening) → Untold r told → Still told
+  unfolding howMany placeAfter
+  untold-still [] none c p = (tt, refl)
+  untold-still (h ∷ told) none c p =
+      let (off, others) = none-of-all (isOf r h) (howMany (isOf r) told) none in
+      let (here, stays) = not-of h off in
+      let (rest, still) = untold-still told others (madeOf book h c) p in
+      rw (stays c p) ((here p, rest), still)
+    where
+      not-of : (h : Happening) → isOf r h ≡ false → ((p : ℕ) → Here h p) × ((c : Contents) (p : ℕ) → ledBy book r h c p ≡ p)
+      not-of (gave e k) n = (λ p. tt, λ c p. refl)
+      not-of (ended q) n = (λ p. tt, λ c p. refl)
+      not-of (missing q o t) n = (λ p e. clash (eq-eqb q r e) n, λ c p. refl)
+      not-of (past q o t) n = (λ p. tt, λ c p. refl)
+      not-of (marked q m) n = (λ p. tt, λ c p. refl)
+      not-of (completed q o) n = (λ p e. clash (eq-eqb q r e) n, λ c p. rw n)
 
   -- r is a routine of an accepted book
   module _ (a : Accepted book) (below : r < routinesOf book) where
     abbrev steps : List ℕ
     steps = routineSteps book r
 
-    -- a turn halts so at place p and leaves its routine at y
-    abbrev pub Halted : ℕ → Ending → Position → Type 0
-    Halted p Ended y = (p ≡ stepCount book r) × (y .place ≡ stepCount book r)
-    Halted p Rested y = (p < stepCount book r) × (y .place ≡ leftBy (opAt steps p) p)
-    Halted p Missed y = (p < stepCount book r) × (y .place ≡ leftBy (opAt steps p) p)
-    Halted p Continued y = y .place ≡ p
+    -- a turn that told this halts so at place p, and leaves its routine at y
+    abbrev pub Halted : List Happening → ℕ → Ending → Position → Type 0
+    Halted told p Ended y = (p ≡ stepCount book r) × (y .place ≡ stepCount book r)
+    Halted told p Rested y = ((opAt steps p ≡ opRest) ⊎ (opAt steps p ≡ opRestFor)) × (y .place ≡ leftBy (opAt steps p) p)
+    Halted told p Missed y = (t : Thing) × Somewhere (λ h. h ≡ missing r p t) told × (y .place ≡ leftBy (opAt steps p) p)
+    Halted told p Continued y = y .place ≡ p
+
+    -- having told more before
+    halted-later : (b c : List Happening) (p : ℕ) (how : Ending) (y : Position) → Halted c p how y → Halted (b ++ c) p how y
+    halted-later b c p Ended y h = h
+    halted-later b c p Rested y h = h
+    halted-later b c p Missed y (t, w, e) = (t, later (λ h. h ≡ missing r p t) b c w, e)
+    halted-later b c p Continued y h = h
 
     -- where no step stands, it is behind the last
     behind-last : (p : ℕ) → stepAt (countsOf book) steps p ≡ step.Refused → p ≤ sizeOf steps → p ≡ stepCount book r
@@ -148,19 +146,24 @@ module _ (book : List ℕ) (r : ℕ) where
 
     halted :
         (x : Position) (s : State) {how : Ending} {y : Position} {told : List Happening} →
-        tick (countsOf book) r steps x s ≡ telling (Halts how y) told → x .place ≤ sizeOf steps → Halted (x .place) how y
-    halted x s {how} {y} same inside = by (stepAt (countsOf book) steps (x .place)) refl (halts-agrees book r x s same .0)
+        tick (countsOf book) r steps x s ≡ telling (Halts how y) told → Stops (countsOf book) r steps x s how y told →
+        x .place ≤ sizeOf steps → Halted told (x .place) how y
+    halted x s {how} {y} {told} same stops inside = by (stepAt (countsOf book) steps (x .place)) refl stops (halts-agrees book r x s same .0)
       where
-        stopped : (k : Kind) → x .place < stepCount book r → (h : Ending) → HaltsAt book r x s (step.Kind k) h y → Halted (x .place) h y
-        stopped k l Ended m = absurd m
-        stopped k l Rested m = (l, m)
-        stopped k l Missed m = (l, m)
-        stopped k l Continued m = m
+        stopped :
+            (k : Kind) {h : Ending} {z : Position} {l : List Happening} → Stops (countsOf book) r steps x s h z l →
+            HaltsAt book r x s (step.Kind k) h z → Halted l (x .place) h z
+        stopped k ends m = absurd m
+        stopped k rests m = m
+        stopped k (misses {t = t} asks none e) m = (t, inl refl, m)
+        stopped k (continues asks none e) m = m
 
-        by : (st : Step) → stepAt (countsOf book) steps (x .place) ≡ st → HaltsAt book r x s st how y → Halted (x .place) how y
-        by (step.Kind k) e h = stopped k (omega (arith, step-below (countsOf book) steps (x .place) e, size-same book a r below)) how h
-        by step.Refused e (h, k) =
-            subst (λ w. Halted (x .place) w y) (sym h)
+        by :
+            (st : Step) → stepAt (countsOf book) steps (x .place) ≡ st → Stops (countsOf book) r steps x s how y told →
+            HaltsAt book r x s st how y → Halted told (x .place) how y
+        by (step.Kind k) e stops h = stopped k stops h
+        by step.Refused e stops (h, k) =
+            subst (λ w. Halted told (x .place) w y) (sym h)
             (behind-last (x .place) e inside, ap (λ (w : Position). w .place) k ∙ size-same book a r below)
 
     -- the steps of a turn of its own
@@ -169,23 +172,23 @@ module _ (book : List ℕ) (r : ℕ) where
         Makes book s (t .told) (t .state) ×
         (t .state .tooMany ≡ false → x .place ≤ sizeOf steps →
         InPlace (t .told) (contentsOf s) (x .place) ×
-        Halted (placeAfter book r (t .told) (contentsOf s) (x .place)) (t .ending) (t .position))
+        Halted (t .told) (placeAfter book r (t .told) (contentsOf s) (x .place)) (t .ending) (t .position))
 
     -- a step of its own that goes on, and one that halts the turn
     goes-own :
         (x : Position) (s : State) (q : ℕ) (told : List Happening) →
-        q ≡ atStep (leadsTo steps (x .place)) steps (x .place) (s .game .counters) → Aside told →
+        q ≡ atStep (leadsTo steps (x .place)) steps (x .place) (s .game .counters) → Still told →
         InPlace (completed r (x .place) ∷ told) (contentsOf s) (x .place) ×
         (placeAfter book r (completed r (x .place) ∷ told) (contentsOf s) (x .place) ≡ q)
     unfolding placeAfter
-    goes-own x s q told leads aside =
-        let (in-place, still) = aside (madeOf book (completed r (x .place)) (contentsOf s)) q in
+    goes-own x s q told leads silence =
+        let (in-place, still) = silence (madeOf book (completed r (x .place)) (contentsOf s)) q in
         rw (eq-eqb r r refl, ← leads) (((λ e. refl), in-place), still)
 
     stops-own :
         (x : Position) (s : State) {how : Ending} {y : Position} {told : List Happening} →
-        Stops (countsOf book) r steps x s how y told → Halted (x .place) how y →
-        InPlace told (contentsOf s) (x .place) × Halted (placeAfter book r told (contentsOf s) (x .place)) how y
+        Stops (countsOf book) r steps x s how y told → Halted told (x .place) how y →
+        InPlace told (contentsOf s) (x .place) × Halted told (placeAfter book r told (contentsOf s) (x .place)) how y
     unfolding placeAfter
     stops-own x s ends h = ((tt, tt), h)
     stops-own x s rests h = (tt, h)
@@ -202,9 +205,9 @@ module _ (book : List ℕ) (r : ℕ) where
           makes-both book s (effectOn e s) (t .state) now (t .told) first makes,
           λ few inside.
               let (others, stop) = later few (leaves-inside book a r below x q leaves) in
-              let (one, led) = goes-own x s q told leads (says-aside says) in
+              let (one, led) = goes-own x s q told leads (says-still says) in
               let (all, to) = walked now (t .told) (contentsOf s) _ (x .place) q (first (makes few .0) .1) led one others in
-              (all, subst (λ o. Halted o (t .ending) (t .position)) (sym to) stop),
+              (all, rw to (halted-later now (t .told) _ (t .ending) (t .position) stop)),
         ))
-        (λ x s how y told same stays stops. (halts-agrees book r x s same .1, λ few inside. stops-own x s stops (halted x s same inside)))
+        (λ x s how y told same stays stops. (halts-agrees book r x s same .1, λ few inside. stops-own x s stops (halted x s same stops inside)))
         (λ x s. (makes-same book s, λ few inside. (tt, refl)))

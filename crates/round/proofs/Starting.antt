@@ -158,7 +158,7 @@ module _ (book : List ℕ) (g : Game) (a : Accepted book) (f : Fits book g) wher
   listed-below = at-start-listed book g range f
 
   -- in the playing order, and among its entries
-  listed-among : (r : ℕ) → In (atStart g .game .listed) r → Among r (entriesOf (atStart g .game .listed))
+  pub listed-among : (r : ℕ) → In (atStart g .game .listed) r → Among r (entriesOf (atStart g .game .listed))
   listed-among = in-among (atStart g .game .listed) (listed-right book g range f) (at-start-sized book g range f .listed)
 
   pub among-listed : (r : ℕ) → Among r (entriesOf (atStart g .game .listed)) → In (atStart g .game .listed) r

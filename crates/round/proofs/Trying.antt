@@ -24,7 +24,7 @@ use Rattle.round.proofs.Stepping.{ticks-by}
 use Rattle.round.proofs.Sound.{Sound}
 use Rattle.round.proofs.Coming.{goes-carries, all-brought}
 use Rattle.round.proofs.Fitting.{effect-sound}
-use Rattle.round.proofs.AfterTurn.{end-keeps, turn-by}
+use Rattle.round.proofs.AfterTurn.{after-few, turn-by}
 
 -- what a try says of the things that are known before it
 abbrev Holds : (Thing → Type 0) → Happening → Type 0
@@ -195,5 +195,4 @@ module _ (book : List ℕ) (a : Accepted book) where
       let t = ticksOf book r s in
       turn-by book r s (λ p. p .state .tooMany ≡ false → InOrder (There s) (p .told)) (λ h few. tt)
       (λ h few.
-      ticks-order r _ _ s ok
-      (end-keeps (λ u. u .tooMany ≡ false → t .state .tooMany ≡ false) (t .ending) r _ (λ k. k) (λ k. k) few) .1)
+      ticks-order r _ _ s ok (after-few r t few) .1)

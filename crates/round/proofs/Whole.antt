@@ -1,5 +1,4 @@
--- The history of a round is true and leaves out no signal, mark, end or miss, as the record of specs/Whole.antt says. Its fields, put
--- together.
+-- The history of a round is true and leaves no step out, as the record of specs/Whole.antt says. Its fields, put together.
 use Prim.Native.Nat.{ℕ}
 use mathlib.Core.List.{List}
 use Rattle.book.specs.Accepted.{Accepted}
@@ -11,7 +10,8 @@ use Rattle.round.proofs.Ends.{ends-counted, ended-as-told}
 use Rattle.round.proofs.Misses.{misses-told}
 use Rattle.round.proofs.Asked.{asked, completed-by-finding}
 use Rattle.round.proofs.Tried.{comes, came, found, lacked}
-use Rattle.round.proofs.Counters.{contents-made}
+use Rattle.round.proofs.Replays.{contents-made}
+use Rattle.round.proofs.Untold.{untold}
 use Rattle.round.proofs.Ways.{stood, left-at}
 
 pub told-whole : (book : List ℕ) (a : Accepted book) (g : Game) → Fits book g → ToldWhole book g
@@ -30,5 +30,6 @@ told-whole book a g f =
       lacked = lacked book a g f;
       stood = λ before after h r. stood book a g f r before after h;
       left = left-at book a g f;
+      untold = untold book a g f;
       contents = contents-made book a g f;
     }

@@ -15,12 +15,15 @@ use Rattle.round.specs.Jumps.{pastPartner, fromEnd}
 use Rattle.round.specs.Demand.{opSignalNumber}
 use Rattle.round.specs.Completed.{opAdd, opTake}
 
--- "1 set", "6 rest", "12 read"
+-- "1 set", "6 rest, 7 rest n", "12 read"
 abbrev pub opSet : ℕ
 opSet = 1
 
 abbrev pub opRest : ℕ
 opRest = 6
+
+abbrev pub opRestFor : ℕ
+opRestFor = 7
 
 abbrev pub opRead : ℕ
 opRead = 12
@@ -55,6 +58,8 @@ leadsTo steps p op a b n counters =
     -- "A place on an else stands for the end of the first block, on a while's end for its next test."
     else if eqb op opElse then pastPartner steps p
     else if eqb op opEnd then fromEnd steps p
+    -- rule 11: a rest halts the turn, so it is never completed and leads nowhere
+    else if eqb op opRest then p
     -- any other to the step that follows it
     else p + 1
 
@@ -82,7 +87,8 @@ module _ (book : List ℕ) where
   contentsAfter [] c = c
   contentsAfter (h ∷ told) c = contentsAfter told (madeOf h c)
 
-  -- where one thing that happened leads routine r from place p, with these contents: only a step of its own that is completed moves it
+  -- where one thing that happened leads routine r from place p, with these contents: only a step of its own that is completed moves it, by
+  -- the step at p, which is the one told (`stood`, Whole.antt)
   abbrev pub ledBy : ℕ → Happening → Contents → ℕ → ℕ
   ledBy r (gave e k) c p = p
   ledBy r (ended q) c p = p

@@ -1,8 +1,8 @@
--- The history of a round is true and leaves out nothing. Carried out again in order, the steps told as completed lead each routine from
--- where it stood to where its last turn ends, and give the counters and numbers behind the round. A signal is told for each signal step, a
--- mark for each mark step, an end for each routine that ended and a miss for each turn that ended by one. A try is of what its step asks
--- for, and finds it exactly if that was there from the start or came before; a step without a count that asks for a thing is completed only
--- by finding it.
+-- The history of a round is true and leaves no step out. Carried out again in order, the steps told as completed lead each routine that
+-- plays from where it stood to where its last turn ends, and give the counters and numbers at the round's end; of the other routines nothing
+-- is told. A signal is told for each signal step, a mark for each mark step, an end for each routine that ended, and a miss for each turn
+-- that ended because its thing was missing. A try is of what its step asks for, and finds it exactly if that was there from the start or
+-- came before; a step of op 8, 10 or 12 is completed only by finding what it asks for.
 use Prim.Native.Nat.{ℕ, _+_, _<_}
 use mathlib.Core.Path.{_≡_}
 use mathlib.Core.Bool.{Bool, true, false}
@@ -12,6 +12,7 @@ use lib.Dec.{eqb}
 use lib.ListN.{length}
 use Rattle.kinds.specs.Steps.{opAt}
 use Rattle.forms.specs.Timed.{Timed}
+use Rattle.layout.specs.Layout.{routinesOf}
 use Rattle.directory.specs.Directory.{stepCount, routineSteps, routineStep}
 use Rattle.game.specs.declared.Routine.{Routine}
 use Rattle.game.specs.declared.Game.{Game}
@@ -20,12 +21,12 @@ use Rattle.game.specs.Game as stage
 use Rattle.round.specs.declared.Ending.the-variants.{Ended, Rested, Missed, Continued}
 use Rattle.round.specs.State.{Thing, Happening, gave, ended, missing, past, marked, completed, isThere}
 use Rattle.round.specs.History.{howMany, Somewhere, Among}
-use Rattle.round.specs.Actions.{kept, atStart}
+use Rattle.round.specs.Actions.{kept, positionOf, atStart}
 use Rattle.round.specs.Rounds.{Turn, passedOver, took, listedIn, round, historyOf}
 use Rattle.round.specs.Demand.{isSignalStep, givesSignal, endsRoutine, AsksFor, Comes}
 use Rattle.round.specs.Answers.{marksIn}
 use Rattle.round.specs.Completed.{completes, isMarkStep}
-use Rattle.round.specs.Replay.{leftBy, contentsAfter, placeAfter}
+use Rattle.round.specs.Replay.{opRest, opRestFor, leftBy, contentsAfter, placeAfter}
 
 -- a try finds its thing missing
 abbrev pub isMiss : Happening → Bool
@@ -46,11 +47,35 @@ missesOf (took Rested ∷ ts) = missesOf ts
 missesOf (took Missed ∷ ts) = missesOf ts + 1
 missesOf (took Continued ∷ ts) = missesOf ts + 1
 
--- routine r, whose last turn has come to place p, is left as x: at rest there, or ended behind its last step
-pub data LeftAt (book : List ℕ) (r p : ℕ) (x : Routine) : Type 0 where
-  rests : x .stage ≡ stage.rested → p < stepCount book r → x .place ≡ leftBy (opAt (routineSteps book r) p) p → LeftAt book r p x
+-- what happened is of routine r; that a signal is given is told with its step
+abbrev pub isOf : ℕ → Happening → Bool
+isOf r (gave e k) = false
+isOf r (ended q) = eqb q r
+isOf r (missing q p t) = eqb q r
+isOf r (past q p t) = eqb q r
+isOf r (marked q n) = eqb q r
+isOf r (completed q p) = eqb q r
+
+-- the op of the step at place p of routine r
+abbrev pub opHere : List ℕ → ℕ → ℕ → ℕ
+opHere book r p = opAt (routineSteps book r) p
+
+-- routine r, whose last turn has come to place p by what is told, is left as x
+pub data LeftAt (book : List ℕ) (r p : ℕ) (told : List Happening) (x : Routine) : Type 0 where
+  -- at a rest or a rest n
+  rests :
+      x .stage ≡ stage.rested → (opHere book r p ≡ opRest) ⊎ (opHere book r p ≡ opRestFor) → x .place ≡ leftBy (opHere book r p) p →
+      LeftAt book r p told x
+  -- at a step whose thing was missing
+  misses :
+      (t : Thing) → x .stage ≡ stage.rested → Somewhere (λ h. h ≡ missing r p t) told → x .place ≡ leftBy (opHere book r p) p →
+      LeftAt book r p told x
   -- "An ended routine's place is its step count."
-  ends : x .stage ≡ stage.ended → p ≡ stepCount book r → x .place ≡ stepCount book r → LeftAt book r p x
+  ends : x .stage ≡ stage.ended → p ≡ stepCount book r → x .place ≡ stepCount book r → LeftAt book r p told x
+
+-- routine r plays in a round from game g; "Listed, suspended: once the eight actions are done."
+abbrev pub Plays : Game → ℕ → Type 0
+Plays g r = Among r (listedIn g) × (routineAt (atStart g .game) r .suspended ≡ false)
 
 -- in a round from game g
 pub record ToldWhole (book : List ℕ) (g : Game) : Type 0 where
@@ -65,7 +90,7 @@ pub record ToldWhole (book : List ℕ) (g : Game) : Type 0 where
   pub endings :
       howMany endsRoutine (historyOf book g)
       ≡ length (kept (λ r. eqb (routineAt (round book g .played .state .game) r .stage) stage.ended) (listedIn g))
-  -- a miss for each turn that came to a step whose thing was missing
+  -- a miss for each turn that ended because its thing was missing
   pub misses : howMany isMiss (historyOf book g) ≡ missesOf (round book g .played .turns)
   -- what came is there at the round's end, and what is there then and was not at the start has come
   pub comes : (t : Thing) → Somewhere (Comes t) (historyOf book g) → isThere (round book g .played .state) t ≡ true
@@ -94,12 +119,17 @@ pub record ToldWhole (book : List ℕ) (g : Game) : Type 0 where
       (before after : List Happening) (h : Happening) (r p : ℕ) → historyOf book g ≡ before ++ (h ∷ after) →
       (h ≡ completed r p) ⊎ ((t : Thing) × (h ≡ missing r p t)) →
       placeAfter book r before (g .counters, []) (routineAt g r .place) ≡ p
-  -- where a listed routine that isn't suspended stands by all that is told, there its last turn ends
+  -- where a routine that plays stands by all that is told, there its last turn ends
   pub left :
-      (r : ℕ) → Among r (listedIn g) → routineAt (atStart g .game) r .suspended ≡ false →
-      LeftAt book r (placeAfter book r (historyOf book g) (g .counters, []) (routineAt g r .place))
+      (r : ℕ) → Plays g r →
+      LeftAt book r (placeAfter book r (historyOf book g) (g .counters, []) (routineAt g r .place)) (historyOf book g)
       (routineAt (round book g .played .state .game) r)
-  -- the steps told as completed, carried out on the counters before the round with no number given yet, give those behind it
+  -- of a routine that doesn't play nothing is told, and it stays where it is
+  pub untold :
+      (r : ℕ) → r < routinesOf book → (Plays g r → ⊥) →
+      (howMany (isOf r) (historyOf book g) ≡ 0)
+      × (positionOf (routineAt (round book g .played .state .game) r) ≡ positionOf (routineAt g r))
+  -- the steps told as completed, carried out on the counters before the round with no number given yet, give those at its end
   pub contents :
       let last = round book g .played .state in
       (last .game .counters, last .numbers) ≡ contentsAfter book (historyOf book g) (g .counters, [])

@@ -35,7 +35,7 @@ use Rattle.round.proofs.TurnLaws.{isGoing}
 use Rattle.round.proofs.Parsed.{size-same}
 use Rattle.round.proofs.Lasting.{routine-in-time}
 use Rattle.round.proofs.Coming.{turn-untouched}
-use Rattle.round.proofs.AfterTurn.{going-parts, end-keeps, position-after, taken, turn-by, turn-taken}
+use Rattle.round.proofs.AfterTurn.{going-parts, after-few, position-after, taken, turn-by, turn-taken}
 use Rattle.round.proofs.Staying.{turn-sound, again-sound}
 use Rattle.round.proofs.Turned.{turn-turned}
 use Rattle.round.proofs.After.{pass-keeps, instant-keeps}
@@ -125,10 +125,8 @@ module _ (book : List ℕ) (a : Accepted book) where
 
         turn-taken-rule : isGoing s r ≡ true → afterTurn r t .tooMany ≡ false → TurnRule book a r run s ms (taken r t)
         turn-taken-rule going few =
-            let few-before =
-            end-keeps (λ u. u .tooMany ≡ false → t .state .tooMany ≡ false) (t .ending) r _ (λ h. h) (λ h. h) few in
             let time = routine-in-time book a r l (positionOf x) s in
-            let (n, ends) = ends-of book a r (mostTicks steps) (positionOf x) s time sound few-before .1 ms in
+            let (n, ends) = ends-of book a r (mostTicks steps) (positionOf x) s time sound (after-few r t few) .1 ms in
             let inside : x .place ≤ sizeOf steps = omega (arith, sound .fits .placesInRange r l, size-same book a r l) in
             let (i, rule, w) = routine-by-rules book a r l n (positionOf x) s ms (run r) inside (stand r l) ends in
             let (unsuspended, stage) = going-parts (x .suspended) (x .stage) going in

@@ -1,10 +1,11 @@
--- The counters and numbers behind a round are what the steps told as completed make of the counters before it. So it is of each step, by
--- the rows of the table of kinds, which say too where a step leads, or leaves its routine; and of one stretch after another. No number is
--- lost in a round.
+-- Each step does what its fields say when what is told is carried out again: by the rows of the table of kinds, it changes the counters and
+-- numbers so and leads on so, or it halts the turn and leaves its routine so. Hence the counters and numbers at a round's end are what the
+-- steps told as completed make of the counters before it; no number is lost in a round.
 use Prim.Native.Nat.{ℕ}
 use mathlib.Core.Path.{_≡_, refl, sym, subst, ap, _∙_}
 use mathlib.Core.Bool.{false, _&&_, not}
 use mathlib.Core.List.{List, [], _∷_, _++_}
+use mathlib.Core.Logic.{_⊎_, inl, inr}
 use native.Mathlib.Omega.{arith}
 use lib.Dec.{eqb, ltb}
 use lib.ListN.{length}
@@ -36,7 +37,7 @@ use Rattle.round.specs.Jumps.{sizeOf}
 use Rattle.round.specs.Ticks.{Tick, telling, fresh, countAt, onward, tries, waitsFor, tickOf, quits, tickAt, tick, mostNumbers}
 use Rattle.round.specs.Ticks.{effectOn}
 use Rattle.round.specs.Rounds.{ticks, ticksOf, turn, round, historyOf}
-use Rattle.round.specs.Replay.{Contents, madeBy, leadsTo, leftBy, atStep, madeOf, contentsAfter}
+use Rattle.round.specs.Replay.{opRest, opRestFor, Contents, madeBy, leadsTo, leftBy, atStep, madeOf, contentsAfter}
 use Rattle.round.proofs.Stepping.{ticks-by}
 use Rattle.round.proofs.Along.{round-always}
 use Rattle.round.proofs.AfterTurn.{end-keeps, turn-by}
@@ -77,7 +78,7 @@ module _ (book : List ℕ) where
       -- where one that halts the turn leaves its routine; none of them ends it
       abbrev pub LeavesAt : Ending → Position → Type 0
       LeavesAt Ended y = ⊥
-      LeavesAt Rested y = y .place ≡ leftBy op (x .place)
+      LeavesAt Rested y = ((op ≡ opRest) ⊎ (op ≡ opRestFor)) × (y .place ≡ leftBy op (x .place))
       LeavesAt Missed y = y .place ≡ leftBy op (x .place)
       LeavesAt Continued y = y .place ≡ x .place
 
@@ -124,9 +125,9 @@ module _ (book : List ℕ) where
           by-test (λ u. u .tooMany ≡ false → (s .tooMany ≡ false) × (contentsOf u ≡ madeBy 5 a b n (contentsOf s)))
               (ltb (length (s .numbers)) mostNumbers) (λ room few. (few, refl)) (λ full few. clash refl few),
         )
-        and (refl, λ few. (few, refl))
+        and ((inl refl, refl), λ few. (few, refl))
         and by-test (λ act. Agrees 7 a b n act []) (eqb (countAt x (countOf n)) 0) (λ over. (refl, λ few. (few, refl)))
-        (λ some. (refl, λ few. (few, refl)))
+        (λ some. ((inr refl, refl), λ few. (few, refl)))
         and tries-agrees 8 a b n (signal a) Nothing (fresh (x .place)) (refl, λ few. (few, refl)) refl
         and waits-agrees 9 a b n (signal a) (countAt x (countOf n)) (refl, λ few. (few, refl)) refl
         and tries-agrees 10 a b n (end a) Nothing (fresh (x .place)) (refl, λ few. (few, refl)) refl
