@@ -22,6 +22,7 @@ use Rattle.round.specs.Demand.{AsksFor, wait, waitFor, join, joinFor, re
 use Rattle.round.proofs.Acts.{Asks, Says, silent, marks, gives, givesNumber, finds, Stops, ends, rests, misses, continues}
 use Rattle.round.proofs.Asking.{asked-goes}
 use Rattle.round.proofs.Along.{round-always}
+use Rattle.round.proofs.Histories.{EachWith, each-at}
 use Rattle.round.proofs.Stepping.{ticks-by}
 use Rattle.round.proofs.AfterTurn.{turn-by}
 
@@ -49,8 +50,7 @@ module _ (book : List ℕ) where
       (rest : List Happening) × (told ≡ past r p t ∷ rest)
 
   abbrev OfTheirSteps : List Happening → Type 0
-  OfTheirSteps [] = Unit {0}
-  OfTheirSteps (h ∷ told) = OfItsStep h told × OfTheirSteps told
+  OfTheirSteps = EachWith OfItsStep
 
   -- one stretch after another
   longer : (h : Happening) (a b : List Happening) → OfItsStep h a → OfItsStep h (a ++ b)
@@ -100,11 +100,6 @@ module _ (book : List ℕ) where
   round-of : (g : Game) → OfTheirSteps (historyOf book g)
   round-of = round-always (λ s told u. OfTheirSteps told) (λ s. tt) (λ s u v. both) book turn-of (λ s. tt)
 
-  -- what is claimed of what stands somewhere in a history
-  of-at : (before after : List Happening) (h : Happening) → OfTheirSteps (before ++ (h ∷ after)) → OfItsStep h after
-  of-at [] after h o = o .0
-  of-at (x ∷ before) after h o = of-at before after h (o .1)
-
   of-try :
       (r p : ℕ) (t : Thing) (told : List Happening) → OfTheirSteps told →
       Somewhere (λ h. (h ≡ missing r p t) ⊎ (h ≡ past r p t)) told → AsksFor (routineStep book r p) t
@@ -123,4 +118,4 @@ module _ (book : List ℕ) where
     pub completed-by-finding :
         (before after : List Happening) (r p : ℕ) (t : Thing) → historyOf book g ≡ before ++ (completed r p ∷ after) →
         AsksFor (routineStep book r p) t → Untimed (routineStep book r p) → (rest : List Happening) × (after ≡ past r p t ∷ rest)
-    completed-by-finding before after r p t e = of-at before after (completed r p) (subst OfTheirSteps e (round-of g)) t
+    completed-by-finding before after r p t e = each-at OfItsStep before after (completed r p) (subst OfTheirSteps e (round-of g)) t

@@ -15,7 +15,7 @@ use Rattle.round.specs.Demand.{Comes, IsPast, here, later, CatchesUp}
 use Rattle.round.specs.Whole.{isMiss}
 use Rattle.round.proofs.Along.{All}
 use Rattle.round.proofs.TurnLaws.{isGoing, moves, Turned, others-going, Waits, waits-too, ToBeContinued, TurnLaws}
-use Rattle.round.proofs.Histories.{moves-append, somewhere-append, nothing-comes}
+use Rattle.round.proofs.Histories.{moves-append, EachWith, each-at, somewhere-append, nothing-comes}
 use Rattle.round.proofs.Waiting.{passed}
 use Rattle.round.proofs.Closing.{there-again, waits-again}
 
@@ -44,15 +44,10 @@ Owes (marked r n) told = Unit {0}
 Owes (completed r p) told = Unit {0}
 
 abbrev pub Caught : List Happening → Type 0
-Caught [] = Unit {0}
-Caught (h ∷ told) = Owes h told × Caught told
+Caught = EachWith Owes
 
 pub catches : (told : List Happening) → Caught told → CatchesUp told
-catches told c before after r p t e = owed before (subst Caught e c)
-  where
-    owed : (a : List Happening) → Caught (a ++ (missing r p t ∷ after)) → Owes (missing r p t) after
-    owed [] c = c .0
-    owed (h ∷ a) c = owed a (c .1)
+catches told c before after r p t e = each-at Owes before after (missing r p t) (subst Caught e c)
 
 -- where nothing moves, nothing is owed
 pub quiet-caught : (told : List Happening) → moves told ≡ 0 → Caught told

@@ -1,5 +1,5 @@
--- What is told: how many of the things that happened pass a test, what is somewhere among them, and what comes by them. By induction on
--- what is told, and for what one step tells by the table of Acts.antt.
+-- What is told: how many of the things that happened pass a test, what holds of each, what is somewhere among them, and what comes by them.
+-- By induction on what is told, and for what one step tells by the table of Acts.antt.
 use Prim.Native.Nat.{ℕ, _+_}
 use mathlib.Core.Path.{_≡_, refl}
 use mathlib.Core.Bool.{Bool, true, false}
@@ -70,6 +70,17 @@ module _ (test : Happening → Bool) where
 
 pub moves-append : (a b : List Happening) → moves (a ++ b) ≡ moves a + moves b
 moves-append a b = omega (arith, many-append givesSignal a b, many-append endsRoutine a b)
+
+-- a claim on each thing that happened, with what is told after it
+abbrev pub EachWith : (Happening → List Happening → Type 0) → List Happening → Type 0
+EachWith P [] = Unit {0}
+EachWith P (h ∷ told) = P h told × EachWith P told
+
+pub each-at :
+    (P : Happening → List Happening → Type 0) (before after : List Happening) (h : Happening) →
+    EachWith P (before ++ (h ∷ after)) → P h after
+each-at P [] after h all = all .0
+each-at P (x ∷ before) after h all = each-at P before after h (all .1)
 
 -- somewhere in two lists, one after the other
 module _ {A : Type 0} (P : A → Type 0) where

@@ -48,7 +48,7 @@ abbrev pub contentsOf : State → Contents
 contentsOf s = (s .game .counters, s .numbers)
 
 module _ (book : List ℕ) where
-  pub after-append : (a b : List Happening) (c : Contents) → contentsAfter book (a ++ b) c ≡ contentsAfter book b (contentsAfter book a c)
+  after-append : (a b : List Happening) (c : Contents) → contentsAfter book (a ++ b) c ≡ contentsAfter book b (contentsAfter book a c)
   unfolding contentsAfter
   after-append [] b c = refl
   after-append (h ∷ a) b c = after-append a b (madeOf book h c)
@@ -76,7 +76,7 @@ module _ (book : List ℕ) where
     -- a step with these fields
     module _ (op a b : ℕ) (n : ℤ) where
       -- where one that halts the turn leaves its routine; none of them ends it
-      abbrev pub LeavesAt : Ending → Position → Type 0
+      abbrev LeavesAt : Ending → Position → Type 0
       LeavesAt Ended y = ⊥
       LeavesAt Rested y = ((op ≡ opRest) ⊎ (op ≡ opRestFor)) × (y .place ≡ leftBy op (x .place))
       LeavesAt Missed y = y .place ≡ leftBy op (x .place)

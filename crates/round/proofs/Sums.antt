@@ -29,7 +29,7 @@ over-le f g h [] = omega arith
 over-le f g h (r ∷ rs) = omega (arith, h r, over-le f g h rs)
 
 -- a sum in which r alone may count otherwise, where r is not one of the numbers
-pub others-sum :
+others-sum :
     (f g : ℕ → ℕ) (r : ℕ) → ((q : ℕ) → q ≢ r → g q ≡ f q) → (rs : List ℕ) → (Among r rs → ⊥) → sumOver g rs ≡ sumOver f rs
 unfolding sumOver
 others-sum f g r others [] out = refl

@@ -1,7 +1,7 @@
 -- A turn tells nothing of other routines. So of a routine that takes no turn in a round nothing is told, and it stays where it is: one that
 -- is not listed is not in stage 1, and turns of others leave it standing as it does.
 use Prim.Native.Nat.{ℕ, _<_}
-use mathlib.Core.Path.{_≡_, refl, sym, ap, _∙_}
+use mathlib.Core.Path.{_≡_, refl, sym, _∙_}
 use mathlib.Core.Bool.{false}
 use mathlib.Core.List.{List, [], _∷_, _++_}
 use mathlib.Core.Logic.{inl, _≢_}
