@@ -1,4 +1,5 @@
--- The test whether a game fits a book, as it is carried out. Where the book's counts are in range, it decides Fits.
+-- The test whether a game fits a book, as it is carried out but for the lengths that types fix. Where the book's counts are in range, it
+-- decides Fits.
 use Prim.Native.Nat.{ℕ}
 use mathlib.Core.Bool.{Bool, _&&_}
 use mathlib.Core.List.{List}

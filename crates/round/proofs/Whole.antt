@@ -1,4 +1,4 @@
--- The history of a round is true and leaves no step out, as the record of specs/Whole.antt says. Its fields, put together.
+-- What the history of a round says agrees with the round, as the record of specs/Whole.antt has it. Its fields, put together.
 use Prim.Native.Nat.{ℕ}
 use mathlib.Core.List.{List}
 use Rattle.book.specs.Accepted.{Accepted}

@@ -58,7 +58,7 @@ leadsTo steps p op a b n counters =
     -- "A place on an else stands for the end of the first block, on a while's end for its next test."
     else if eqb op opElse then pastPartner steps p
     else if eqb op opEnd then fromEnd steps p
-    -- rule 11: a rest halts the turn, so it is never completed and leads nowhere
+    -- rule 11: a rest halts the turn, and leads nowhere in the same round
     else if eqb op opRest then p
     -- any other to the step that follows it
     else p + 1

@@ -1,7 +1,7 @@
--- The history of a round is true and leaves no step out. Carried out again in order, the steps told as completed lead each routine that
--- plays from where it stood to where its last turn ends, and give the counters and numbers at the round's end; of the other routines nothing
--- is told. A signal is told for each signal step, a mark for each mark step, an end for each routine that ended, and a miss for each turn
--- that ended because its thing was missing. A try is of what its step asks for, and finds it exactly if that was there from the start or
+-- What the history of a round says is held against the round. Carried out again in order, the steps told as completed lead each routine that
+-- plays from where it stood to where its last turn ends, so none is left out, and give the counters and numbers at the round's end; of the
+-- other routines nothing is told. There are as many signals as signal steps, as many marks as mark steps, an end for each routine that ended,
+-- and as many misses as turns that ended because their thing was missing; which signal or mark a step gives is not said here. A try is of what its step asks for, and finds it exactly if that was there from the start or
 -- came before; a step of op 8, 10 or 12 is completed only by finding what it asks for.
 use Prim.Native.Nat.{ℕ, _+_, _<_}
 use mathlib.Core.Path.{_≡_}
@@ -47,7 +47,7 @@ missesOf (took Rested ∷ ts) = missesOf ts
 missesOf (took Missed ∷ ts) = missesOf ts + 1
 missesOf (took Continued ∷ ts) = missesOf ts + 1
 
--- what happened is of routine r; that a signal is given is told with its step
+-- what happened is of routine r; of a signal that is given the history does not tell whose it is
 abbrev pub isOf : ℕ → Happening → Bool
 isOf r (gave e k) = false
 isOf r (ended q) = eqb q r
@@ -60,7 +60,7 @@ isOf r (completed q p) = eqb q r
 abbrev pub opHere : List ℕ → ℕ → ℕ → ℕ
 opHere book r p = opAt (routineSteps book r) p
 
--- routine r, whose last turn has come to place p by what is told, is left as x
+-- routine r, whose last turn has come to place p by what is told, is left in the stage and at the place of x
 pub data LeftAt (book : List ℕ) (r p : ℕ) (told : List Happening) (x : Routine) : Type 0 where
   -- at a rest or a rest n
   rests :
@@ -79,9 +79,9 @@ Plays g r = Among r (listedIn g) × (routineAt (atStart g .game) r .suspended �
 
 -- in a round from game g
 pub record ToldWhole (book : List ℕ) (g : Game) : Type 0 where
-  -- a signal for each signal step that is carried out
+  -- as many signals as signal steps that are carried out
   pub signals : howMany givesSignal (historyOf book g) ≡ howMany (completes (isSignalStep book)) (historyOf book g)
-  -- a mark for each mark step
+  -- as many marks as mark steps
   pub marks : length (marksIn (historyOf book g)) ≡ howMany (completes (isMarkStep book)) (historyOf book g)
   -- an end for each listed routine that is in stage 3 in the game given back, and for no other
   pub ends :
@@ -90,7 +90,7 @@ pub record ToldWhole (book : List ℕ) (g : Game) : Type 0 where
   pub endings :
       howMany endsRoutine (historyOf book g)
       ≡ length (kept (λ r. eqb (routineAt (round book g .played .state .game) r .stage) stage.ended) (listedIn g))
-  -- a miss for each turn that ended because its thing was missing
+  -- as many misses as turns that ended because their thing was missing
   pub misses : howMany isMiss (historyOf book g) ≡ missesOf (round book g .played .turns)
   -- what came is there at the round's end, and what is there then and was not at the start has come
   pub comes : (t : Thing) → Somewhere (Comes t) (historyOf book g) → isThere (round book g .played .state) t ≡ true
@@ -114,12 +114,12 @@ pub record ToldWhole (book : List ℕ) (g : Game) : Type 0 where
   pub lacked :
       (before after : List Happening) (r p : ℕ) (t : Thing) → historyOf book g ≡ before ++ (missing r p t ∷ after) →
       (isThere (atStart g) t ≡ false) × (Somewhere (Comes t) before → ⊥)
-  -- a step is completed, or its thing is found missing, where its routine stands by what is told before: no step is left out
+  -- a step is completed, or its thing is found missing, where its routine stands by what is told before;
   pub stood :
       (before after : List Happening) (h : Happening) (r p : ℕ) → historyOf book g ≡ before ++ (h ∷ after) →
       (h ≡ completed r p) ⊎ ((t : Thing) × (h ≡ missing r p t)) →
       placeAfter book r before (g .counters, []) (routineAt g r .place) ≡ p
-  -- where a routine that plays stands by all that is told, there its last turn ends
+  -- and where a routine that plays stands by all that is told, there its last turn ends: with both, no step is left out
   pub left :
       (r : ℕ) → Plays g r →
       LeftAt book r (placeAfter book r (historyOf book g) (g .counters, []) (routineAt g r .place)) (historyOf book g)
