@@ -7,5 +7,5 @@ ghost use Rattle.book.specs.Book.{bookVerdict};
 pub extern "C" fn zulqenat_check_book(book: &[u8]) -> verdicts::Verdict
     ensures { λ r. ⌜ r ≡ bookVerdict (now (book .entry)) ⌝ }
 {
-    verdicts::verdict_of(book::read_book(book))
+    verdicts::verdict_of(reading::read_book(book))
 }

@@ -1,10 +1,10 @@
 // Reads the books of the input, a line each: the number and the place expected, and the bytes in hexadecimal (`-` for none).
 // Prints what reading each book answers, and whether that is what its line expects.
-use digits::Bytes;
-use digits::LONGEST;
 use digits::Number;
 use digits::decimal;
-use digits::read_bytes;
+use hex::Bytes;
+use hex::LONGEST;
+use hex::read_bytes;
 use words::find;
 use words::first;
 use words::part;
@@ -41,7 +41,7 @@ fn unreadable() -> bool {
 
 // What reading the first `count` bytes answers.
 fn verdict_on(book: &[u8; LONGEST], count: usize) -> verdicts::Verdict {
-    verdicts::verdict_of(book::read_book(part(book, count)))
+    verdicts::verdict_of(reading::read_book(part(book, count)))
 }
 
 // The book whose digits are `text`: whether it is answered as expected.

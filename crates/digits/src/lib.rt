@@ -1,14 +1,9 @@
-// The numbers and bytes that words of digits stand for.
+// The digits of a word, and the numbers that words of them stand for.
 use words::first;
-use words::is;
 use words::rest;
 ghost use mathlib.Core.Path.{_≡_};
-ghost use Prim.Native.Nat.{_/_, _≤_};
-ghost use lib.ListN.{length};
-ghost use Rattle.digits.specs.Digits.{digitOf, decimalOf, signedOf, pairIn, longest, isHex, writtenFrom, bytesIn, writtenIn};
-
-// The most bytes that a word may stand for.
-pub const LONGEST: usize = 16384;
+ghost use Prim.Native.Nat.{_≤_};
+ghost use Rattle.digits.specs.Digits.{digitOf, decimalOf, signedOf, pairIn};
 
 // The largest number of 32 bits, as a number of 64 and of 32, and how far below 0 a signed one goes.
 const LARGEST: u64 = 4294967295;
@@ -18,7 +13,7 @@ const HIGHEST: u32 = 4294967295;
 const LOWEST: u32 = 2147483648;
 
 // The value of a hexadecimal digit; 16 for any other byte.
-fn digit(c: u8) -> u8
+pub fn digit(c: u8) -> u8
     ensures { λ r. ⌜ (r ≡ digitOf c) × (r ≤ 16) ⌝ }
 {
     if b'a' <= c {
@@ -114,64 +109,4 @@ pub fn read_pair(text: &[u8], negative: bool) -> Pair
         return Pair::Wrong;
     };
     Pair::Values(one, two)
-}
-
-// What a word says where bytes are expected: how many they are.
-pub enum Bytes {
-    Count(usize),
-    Wrong,
-}
-
-// Whether a word stands for bytes, two hexadecimal digits each.
-fn is_hex(word: &[u8]) -> bool
-    ensures { λ r. ⌜ r ≡ isHex (now (word .entry)) ⌝ }
-{
-    if word.len() == 0 {
-        return false;
-    }
-    if word.len() % 2 != 0 {
-        return false;
-    }
-    if LONGEST < word.len() / 2 {
-        return false;
-    }
-    let mut at: usize = 0;
-    while at < word.len() {
-        if 15 < digit(word[at]) {
-            return false;
-        }
-        at += 1;
-    }
-    true
-}
-
-// Puts so many bytes whose digits are `word` into `bytes`.
-fn fill(word: &[u8], all: usize, bytes: &mut [u8; LONGEST])
-    requires { ⌜ (all ≤ longest) × (all ≤ length (now word) / 2) ⌝ }
-    ensures { λ r. ⌜ now (bytes .exit) ≡ writtenFrom (now (word .entry)) all (now (bytes .entry)) 0 ⌝ }
-{
-    let mut count: usize = 0;
-    while count < all {
-        let at = count * 2;
-        let high = digit(word[at]) % 16;
-        let low = digit(word[at + 1]) % 16;
-        bytes[count] = high * 16 + low;
-        count += 1;
-    }
-}
-
-// The bytes whose digits are a word, two each, or `-` for none: they are put into `bytes`, which any other word leaves as lent.
-pub fn read_bytes(word: &[u8], bytes: &mut [u8; LONGEST]) -> Bytes
-    ensures count { λ r. ⌜ r ≡ bytesIn (now (word .entry)) ⌝ }
-    ensures written { λ r. ⌜ now (bytes .exit) ≡ writtenIn (now (word .entry)) (now (bytes .entry)) ⌝ }
-{
-    if is(word, b"-") {
-        return Bytes::Count(0);
-    }
-    if is_hex(word) {
-        let count = word.len() / 2;
-        fill(word, count, bytes);
-        return Bytes::Count(count);
-    }
-    Bytes::Wrong
 }

@@ -3,15 +3,15 @@
 mod pokes;
 mod printing;
 
-use digits::Bytes;
-use digits::LONGEST;
 use digits::Number;
 use digits::Pair;
 use digits::decimal;
-use digits::read_bytes;
 use digits::read_pair;
 use game::Game;
 use game::blank_game;
+use hex::Bytes;
+use hex::LONGEST;
+use hex::read_bytes;
 use pokes::poke_field;
 use printing::print_bytes;
 use printing::print_game;
@@ -42,7 +42,7 @@ fn show(text: &[u8], book: &[u8]) {
         return;
     };
     io::write_all(1, b"show ");
-    print_bytes(book::show(book, routine as usize));
+    print_bytes(reading::show(book, routine as usize));
     io::write_all(1, b"\n");
 }
 
@@ -57,7 +57,7 @@ fn order(text: &[u8], book: &[u8], game: Game) -> Game {
         print_wrong();
         return game;
     };
-    let outcome = orders::order(book, game, kind, number);
+    let outcome = ordering::order(book, game, kind, number);
     print_verdict(b"order", outcome.verdict);
     outcome.game
 }
@@ -87,7 +87,7 @@ fn long_command(line: &[u8], book: &[u8], game: Game) -> Game {
 fn command(line: &[u8], buffer: &[u8; LONGEST], count: usize, game: Game) -> Game {
     let book = part(buffer, count);
     match place_in(b"read setup dump", line) {
-        0 => print_verdict(b"read", verdicts::verdict_of(book::read_book(book))),
+        0 => print_verdict(b"read", verdicts::verdict_of(reading::read_book(book))),
         1 => return set_up(book, game),
         2 => print_game(game),
         _ => return long_command(line, book, game),

@@ -7,9 +7,9 @@ use layout::MOST_ROUTINES;
 use layout::MOST_SIGNALS;
 use lines::Line;
 use lines::MOST_ENTRIES;
-use orders::RESUME;
-use orders::STOP;
-use orders::SUSPEND;
+use ordering::RESUME;
+use ordering::STOP;
+use ordering::SUSPEND;
 use verdicts::Verdict;
 
 pub fn print_wrong() {

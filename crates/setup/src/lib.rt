@@ -1,5 +1,4 @@
 // Setting up a game. Document 01, "The game".
-use book::read_book;
 use game::Game;
 use game::blank_routine;
 use kinds::Counts;
@@ -10,6 +9,7 @@ use layout::counts_of;
 use lines::Line;
 use lines::MOST_ENTRIES;
 use lines::push;
+use reading::read_book;
 use verdicts::Verdict;
 use verdicts::verdict_of;
 ghost use mathlib.Core.Path.{_≡_};

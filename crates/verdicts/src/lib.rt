@@ -1,6 +1,6 @@
 // What reading a book answers, and the number and place that it stands for. Document 01, "Turned down because of the input".
 ghost use mathlib.Core.Path.{_≡_};
-ghost use Rattle.verdicts.specs.Verdicts.{refused, verdictOf};
+ghost use Rattle.verdicts.specs.Verdicts.{refused, verdictOf, _orElse_};
 
 // What reading a book answers: accepted, or the first refusal that applies, with its place where it has one.
 pub enum Answer {
@@ -42,8 +42,20 @@ pub fn verdict_of(answer: Answer) -> Verdict
     }
 }
 
-fn told(number: u32, place: u32) -> Verdict
+// A refusal's number and place as a verdict.
+pub fn told(number: u32, place: u32) -> Verdict
     ensures { λ r. ⌜ r ≡ refused number place ⌝ }
 {
     Verdict { number, place }
+}
+
+// The first of two answers that is a refusal.
+pub fn first_answer(one: Answer, other: Answer) -> Answer
+    ensures { λ r. ⌜ verdictOf r ≡ (verdictOf one orElse verdictOf other) ⌝ }
+{
+    if verdict_of(one).number == 0 {
+        other
+    } else {
+        one
+    }
 }

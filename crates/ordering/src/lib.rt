@@ -1,0 +1,110 @@
+// Giving a game an outside order. Document 01, "The game".
+use fitting::fits;
+use game::Game;
+use game::with_resume;
+use game::with_start;
+use game::with_stop;
+use game::with_suspend;
+use kinds::Counts;
+use layout::counts_of;
+use reading::read_book;
+use setup::Outcome;
+use verdicts::Verdict;
+use verdicts::told;
+use verdicts::verdict_of;
+ghost use mathlib.Core.Path.{_≡_};
+ghost use Prim.Native.Nat.{_<_};
+ghost use Rattle.setup.specs.SetUp.{GivesFitting};
+ghost use Rattle.orders.specs.Orders.{orderCount, mostCounts, orderVerdict, obeyed, ordered};
+
+// The kinds of an order.
+pub const BROADCAST: u32 = 0;
+
+pub const START: u32 = 1;
+
+pub const STOP: u32 = 2;
+
+pub const SUSPEND: u32 = 3;
+
+pub const RESUME: u32 = 4;
+
+// The numbers of the refusals that an order tells after those of its book.
+const UNFIT: u32 = 9;
+
+const WRONG_ORDER: u32 = 8;
+
+// How many numbers an order of this kind may name.
+fn order_count(counts: Counts, kind: u32) -> usize
+    ensures { λ r. ⌜ r ≡ orderCount counts kind ⌝ }
+{
+    match kind {
+        BROADCAST => counts.signals,
+        START => counts.routines,
+        STOP => counts.routines,
+        SUSPEND => counts.routines,
+        RESUME => counts.routines,
+        _ => 0,
+    }
+}
+
+// The refusal of an order: checks 1 to 7, then 9, then 8.
+fn order_verdict(book: &[u8], game: Game, kind: u32, number: u32) -> Verdict
+    ensures { λ r. ⌜ r ≡ orderVerdict (now (book .entry)) game kind number ⌝ }
+{
+    let verdict = verdict_of(read_book(book));
+    if verdict.number != 0 {
+        return verdict;
+    }
+    if !fits(book, game) {
+        return told(UNFIT, 0);
+    }
+    if order_count(counts_of(book), kind) <= number as usize {
+        return told(WRONG_ORDER, 0);
+    }
+    verdict
+}
+
+// A game with an order in its list or set for the next round. The number is a place in the array that the order's kind names.
+fn obey(game: Game, kind: u32, number: usize) -> Game
+    requires { ⌜ number < orderCount mostCounts kind ⌝ }
+    ensures { λ r. ⌜ r ≡ obeyed game kind number ⌝ }
+{
+    let mut next = game;
+    if kind == BROADCAST {
+        next.broadcast[number] = true;
+        return next;
+    }
+    let x = game.routines[number];
+    match kind {
+        START => {
+            let starting = game.starting;
+            next.starting = with_start(starting, number as u8, x.stage);
+        }
+        STOP => {
+            next.routines[number] = with_stop(x);
+        }
+        SUSPEND => {
+            next.routines[number] = with_suspend(x);
+        }
+        RESUME => {
+            next.routines[number] = with_resume(x);
+        }
+        _ => {}
+    }
+    next
+}
+
+// Gives a game an outside order for the next round; a refusal hands the game back as lent. The kind and the number may be anything.
+pub fn order(book: &[u8], game: Game, kind: u32, number: u32) -> Outcome
+    ensures { λ r. ⌜ (r ≡ ordered (now (book .entry)) game kind number) × GivesFitting (now (book .entry)) r ⌝ }
+{
+    let verdict = order_verdict(book, game, kind, number);
+    if verdict.number == 0 {
+        let next = obey(game, kind, number as usize);
+        return Outcome {
+            verdict,
+            game: next,
+        };
+    }
+    Outcome { verdict, game }
+}

@@ -1,0 +1,44 @@
+// Books of routines: read from any bytes, and shown. Document 01, "The book" and "Turned down because of the input".
+mod checks;
+
+use directory::routine_steps;
+use verdicts::Answer;
+ghost use mathlib.Core.Path.{_≡_};
+ghost use Prim.Native.Nat.{_+_};
+ghost use Rattle.verdicts.specs.Verdicts.{verdictOf};
+ghost use Rattle.book.specs.Book.{bookVerdict, shown, shownFrom};
+
+// Reads a book: the first refusal of 1 to 7 that applies.
+pub fn read_book(book: &[u8]) -> Answer
+    ensures { λ r. ⌜ verdictOf r ≡ bookVerdict (now (book .entry)) ⌝ }
+{
+    let laid = layout::check_layout(book);
+    let Answer::Accepted = laid else {
+        return laid;
+    };
+    let entries = directory::check_directory(book);
+    let Answer::Accepted = entries else {
+        return entries;
+    };
+    let steps = checks::check_steps(book);
+    let Answer::Accepted = steps else {
+        return steps;
+    };
+    checks::check_blocks(book)
+}
+
+// The steps of a routine, as that part of the lent book; the empty part at its start for a refused book or a number not
+// below R. The second promise says which part: the same memory, from that byte on.
+pub fn show(book: &[u8], routine: usize) -> &[u8]
+    ensures bytes { λ r. ⌜ now r ≡ shown (now (book .entry)) routine ⌝ }
+    ensures place { λ r. ⌜ (r .ptr .0 ≡ book .entry .ptr .0) × (r .ptr .1 ≡ book .entry .ptr .1 + shownFrom (now (book .entry)) routine) ⌝ }
+{
+    let answer = read_book(book);
+    let Answer::Accepted = answer else {
+        return &book[0..0];
+    };
+    if layout::routines(book) <= routine {
+        return &book[0..0];
+    }
+    routine_steps(book, routine)
+}
