@@ -46,7 +46,7 @@ module _
 
 after : (s : List ℕ) (r : ℕ) → stepsBefore s (r + 1) ≡ stepsBefore s r + stepCount s r
 unfolding stepsBefore
-after s r = rw add-one
+after s r = rw (add-one r)
 
 abbrev Inv-loop : tie.InvT-loop
 Inv-loop book all routine₀ sum₀ routine sum =
