@@ -24,49 +24,48 @@ pub none-of-all : (t : Bool) (n : ℕ) → (if t then n + 1 else n) ≡ 0 → (t
 none-of-all true n e = absurd (omega arith)
 none-of-all false n e = (refl, e)
 
-module _ (test : Happening → Bool) where
-  pub many-append : (a b : List Happening) → howMany test (a ++ b) ≡ howMany test a + howMany test b
+module _ {A : Type 0} (test : A → Bool) where
+  pub many-append : (a b : List A) → howMany test (a ++ b) ≡ howMany test a + howMany test b
   unfolding howMany
   many-append [] b = omega arith
-  many-append (h ∷ a) b = let rest = many-append a b in counted (test h) _ _ _ rest
+  many-append (x ∷ a) b = let rest = many-append a b in counted (test x) _ _ _ rest
     where
       counted : (t : Bool) (m n k : ℕ) → m ≡ n + k → (if t then m + 1 else m) ≡ (if t then n + 1 else n) + k
       counted true m n k e = omega arith
       counted false m n k e = e
 
   -- nothing of the one and nothing of the other
-  pub none-of-both : (a b : List Happening) → howMany test a ≡ 0 → howMany test b ≡ 0 → howMany test (a ++ b) ≡ 0
+  pub none-of-both : (a b : List A) → howMany test a ≡ 0 → howMany test b ≡ 0 → howMany test (a ++ b) ≡ 0
   none-of-both a b h k = let both = many-append a b in omega arith
 
   -- where nothing that passes a test is told, nothing is that would have to pass it
   pub none-told :
-      (P : Happening → Type 0) → ((h : Happening) → P h → test h ≡ true) → (told : List Happening) → howMany test told ≡ 0 →
-      Somewhere P told → ⊥
+      (P : A → Type 0) → ((h : A) → P h → test h ≡ true) → (told : List A) → howMany test told ≡ 0 → Somewhere P told → ⊥
   unfolding howMany
   none-told P passes (h ∷ told) e (inl p) = clash (passes h p) (none-of-all (test h) _ e .0)
   none-told P passes (h ∷ told) e (inr p) = none-told P passes told (none-of-all (test h) _ e .1) p
 
-  -- what a step of routine r at position x tells
-  module _ {counts : Counts} {r : ℕ} {steps : List ℕ} {x : Position} {s : State} where
-    pub says-none :
-        ((n : ℤ) → test (marked r n) ≡ false) → ((e k : ℕ) → test (gave e k) ≡ false) →
-        ((t : Thing) → test (past r (x .place) t) ≡ false) →
-        {e : Effect} {told : List Happening} → Says counts r steps x s e told → howMany test told ≡ 0
-    unfolding howMany
-    says-none mark give find (silent g o) = refl
-    says-none mark give find (marks {n} h) = rw (mark n)
-    says-none mark give find (gives {e} h) = rw (give e 0)
-    says-none mark give find (givesNumber {e} h) = rw give
-    says-none mark give find (finds {t = t} g o a h) = rw (find t)
+-- what a step of routine r at position x tells
+module _ (test : Happening → Bool) {counts : Counts} {r : ℕ} {steps : List ℕ} {x : Position} {s : State} where
+  pub says-none :
+      ((n : ℤ) → test (marked r n) ≡ false) → ((e k : ℕ) → test (gave e k) ≡ false) →
+      ((t : Thing) → test (past r (x .place) t) ≡ false) →
+      {e : Effect} {told : List Happening} → Says counts r steps x s e told → howMany test told ≡ 0
+  unfolding howMany
+  says-none mark give find (silent g o) = refl
+  says-none mark give find (marks {n} h) = rw (mark n)
+  says-none mark give find (gives {e} h) = rw (give e 0)
+  says-none mark give find (givesNumber {e} h) = rw give
+  says-none mark give find (finds {t = t} g o a h) = rw (find t)
 
-    pub stops-none :
-        test (ended r) ≡ false → ((t : Thing) → test (missing r (x .place) t) ≡ false) →
-        {how : Ending} {y : Position} {told : List Happening} → Stops counts r steps x s how y told → howMany test told ≡ 0
-    unfolding howMany
-    stops-none over miss ends = rw over
-    stops-none over miss rests = refl
-    stops-none over miss (misses {t = t} a h e) = rw (miss t)
-    stops-none over miss (continues {t} a h e) = rw (miss t)
+  pub stops-none :
+      test (ended r) ≡ false → ((t : Thing) → test (missing r (x .place) t) ≡ false) →
+      {how : Ending} {y : Position} {told : List Happening} → Stops counts r steps x s how y told → howMany test told ≡ 0
+  unfolding howMany
+  stops-none over miss ends = rw over
+  stops-none over miss rests = refl
+  stops-none over miss (misses {t = t} a h e) = rw (miss t)
+  stops-none over miss (continues {t} a h e) = rw (miss t)
 
 pub moves-append : (a b : List Happening) → moves (a ++ b) ≡ moves a + moves b
 moves-append a b = omega (arith, many-append givesSignal a b, many-append endsRoutine a b)

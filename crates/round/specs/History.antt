@@ -1,4 +1,4 @@
--- Counting in a book and in a round's history, and what is somewhere in a list.
+-- Counting in a book and in a list, and what is somewhere in a list.
 use Prim.Native.Nat.{ℕ, zero, suc, _+_}
 use mathlib.Core.Bool.{Bool}
 use mathlib.Core.Path.{_≡_}
@@ -6,7 +6,6 @@ use mathlib.Core.List.{List, [], _∷_}
 use mathlib.Core.Logic.{_⊎_}
 use Rattle.numbers.specs.Choice.{if_then_else_}
 use Rattle.directory.specs.Directory.{stepCount}
-use Rattle.round.specs.State.{Happening}
 
 -- how many of the first n places pass a test
 unfoldable pub countBelow : (ℕ → Bool) → ℕ → ℕ
@@ -18,10 +17,10 @@ unfoldable pub stepsIn : List ℕ → (ℕ → ℕ → Bool) → List ℕ → �
 stepsIn book set [] = 0
 stepsIn book set (r ∷ rs) = countBelow (set r) (stepCount book r) + stepsIn book set rs
 
--- how many of the things that happened pass a test
-unfoldable pub howMany : (Happening → Bool) → List Happening → ℕ
+-- how many items of a list pass a test
+unfoldable pub howMany : {A : Type 0} → (A → Bool) → List A → ℕ
 howMany test [] = 0
-howMany test (h ∷ told) = let rest = howMany test told in if test h then rest + 1 else rest
+howMany test (x ∷ xs) = let rest = howMany test xs in if test x then rest + 1 else rest
 
 -- P holds of some item of a list
 abbrev pub Somewhere : {A : Type 0} → (A → Type 0) → List A → Type 0

@@ -3,7 +3,7 @@
 -- other routines nothing is told. There are as many signals as signal steps, as many marks as mark steps, an end for each routine that ended,
 -- and as many misses as turns that ended because their thing was missing; which signal or mark a step gives is not said here. A try is of what its step asks for, and finds it exactly if that was there from the start or
 -- came before; a step of op 8, 10 or 12 is completed only by finding what it asks for.
-use Prim.Native.Nat.{ℕ, _+_, _<_}
+use Prim.Native.Nat.{ℕ, _<_}
 use mathlib.Core.Path.{_≡_}
 use mathlib.Core.Bool.{Bool, true, false}
 use mathlib.Core.List.{List, [], _∷_, _++_}
@@ -37,15 +37,13 @@ isMiss (past r p t) = false
 isMiss (marked r n) = false
 isMiss (completed r p) = false
 
--- how many turns ended for want of a thing: to rest, or to be continued; that no turn is continued because its steps ran out is
--- Enough.antt's claim
-unfoldable pub missesOf : List Turn → ℕ
-missesOf [] = 0
-missesOf (passedOver ∷ ts) = missesOf ts
-missesOf (took Ended ∷ ts) = missesOf ts
-missesOf (took Rested ∷ ts) = missesOf ts
-missesOf (took Missed ∷ ts) = missesOf ts + 1
-missesOf (took Continued ∷ ts) = missesOf ts + 1
+-- a turn ended for want of a thing: to rest, or to be continued; that no turn is continued because its steps ran out is Enough.antt's claim
+abbrev pub lacksThing : Turn → Bool
+lacksThing passedOver = false
+lacksThing (took Ended) = false
+lacksThing (took Rested) = false
+lacksThing (took Missed) = true
+lacksThing (took Continued) = true
 
 -- what happened is of routine r; of a signal that is given the history does not tell whose it is
 abbrev pub isOf : ℕ → Happening → Bool
@@ -91,7 +89,7 @@ pub record ToldWhole (book : List ℕ) (g : Game) : Type 0 where
       howMany endsRoutine (historyOf book g)
       ≡ length (kept (λ r. eqb (routineAt (round book g .played .state .game) r .stage) stage.ended) (listedIn g))
   -- as many misses as turns that ended because their thing was missing
-  pub misses : howMany isMiss (historyOf book g) ≡ missesOf (round book g .played .turns)
+  pub misses : howMany isMiss (historyOf book g) ≡ howMany lacksThing (round book g .played .turns)
   -- what came is there at the round's end, and what is there then and was not at the start has come
   pub comes : (t : Thing) → Somewhere (Comes t) (historyOf book g) → isThere (round book g .played .state) t ≡ true
   pub came :
