@@ -4,7 +4,7 @@
 use Prim.Native.Nat.{ℕ, zero, suc, _+_, _<_, _≤_}
 use mathlib.Core.Path.{_≡_, refl, ap}
 use mathlib.Core.Bool.{Bool}
-use mathlib.Core.List.{List, [], _∷_}
+use mathlib.Core.List.{List}
 use mathlib.Core.Logic.{inl, inr}
 use native.Mathlib.Omega.{arith}
 use lib.ListN.{length}
@@ -27,17 +27,17 @@ use Rattle.round.specs.Ticks.{tick, fresh, effectOn}
 use Rattle.round.specs.Rounds.{follow, ticks, Played, followedBy, allDone, Round, mostPasses, listedIn, turn, pass, instant, round}
 use Rattle.round.specs.Enough.{IfItGoesOn, InTime, RoundEnds, Enough}
 use Rattle.round.specs.Demand.{isSignalStep, givesSignal, endsRoutine}
-use Rattle.round.proofs.Along.{All}
+use Rattle.round.proofs.Along.{All, among-all}
 use Rattle.round.proofs.Sound.{Sound}
 use Rattle.round.proofs.TurnLaws.{isGoing, moves}
-use Rattle.round.proofs.Sums.{sumOver}
-use Rattle.round.proofs.Entries.{entries-length}
+use Rattle.round.proofs.Sums.{over-le, kept-sum}
+use Rattle.round.proofs.Entries.{kept-short, entries-length}
 use Rattle.round.proofs.Starting.{at-start-sound, listed-distinct, listed-below}
 use Rattle.round.proofs.Lasting.{routine-in-time, left-most}
-use Rattle.round.proofs.Paying.{worth, leftOf, turn-pays, ends-pay}
+use Rattle.round.proofs.Paying.{worth, leftOf, turn-pays, mayEnd, ends-pay}
 use Rattle.round.proofs.PayingPasses.{total, pass-pays}
 use Rattle.round.proofs.Accounts.{turn-signals}
-use Rattle.round.proofs.BookSteps.{few-steps}
+use Rattle.round.proofs.BookSteps.{steps-sum, few-steps}
 use Rattle.round.proofs.Passes.{round-ends}
 use Rattle.round.proofs.Lawful.{turn-laws}
 
@@ -78,29 +78,20 @@ more-passes book zero (suc n) l rs s h = absurd (omega arith)
 more-passes book (suc k) (suc n) l rs s (inl done) = rw done
 more-passes book (suc k) (suc n) l rs s (inr (on, rest)) = ap (passThen (pass book rs s)) (more-passes book k n (omega arith) rs _ rest)
 
--- a routine that takes turns may still end
-abbrev mayEnd : ℕ → Position → ℕ
-mayEnd r x = 1
-
+-- no more routines may end than there are
 total-ends : (L : List ℕ) (s : State) → total mayEnd L s ≤ length L
-unfolding sumOver
-total-ends [] s = omega arith
-total-ends (r ∷ rs) s =
-    let one : worth mayEnd r s ≤ 1 = by-test (λ (n : ℕ). n ≤ 1) (isGoing s r) (λ h. omega arith) (λ h. omega arith) in
-    omega (arith, total-ends rs s)
+total-ends L s = omega (arith, kept-sum (isGoing s) L, kept-short (isGoing s) L)
 
 module _ (book : List ℕ) (a : Accepted book) where
   -- some routines have no more left than they have
   pub total-left :
       (set : ℕ → ℕ → Bool) (L : List ℕ) → All (λ r. r < routinesOf book) L → (s : State) →
       total (leftOf book a set) L s ≤ stepsIn book set L
-  unfolding sumOver stepsIn
-  total-left set [] all s = omega arith
-  total-left set (r ∷ rs) all s =
-      let most = countBelow (set r) (stepCount book r) in
-      let own : worth (leftOf book a set) r s ≤ most =
-      by-test (λ (n : ℕ). n ≤ most) (isGoing s r) (λ h. left-most book a set r (all .0) _) (λ h. omega arith) in
-      omega (arith, total-left set rs (all .1) s)
+  total-left set L all s =
+      rw steps-sum
+      (over-le _ _ L (λ r h.
+      by-test (λ (n : ℕ). n ≤ countBelow (set r) (stepCount book r)) (isGoing s r)
+      (λ g. left-most book a set r (among-all (λ q. q < routinesOf book) r L all h) _) (λ g. omega arith)))
 
   -- what the signals and the ends of a round pay from
   abbrev signals : ℕ → Position → ℕ

@@ -112,11 +112,14 @@ module _ (book : List ℕ) (a : Accepted book) (set : ℕ → ℕ → Bool) wher
       (λ p t. refl) (λ x. omega arith) s
 
 -- a routine that takes turns may still end, once
+abbrev pub mayEnd : ℕ → Position → ℕ
+mayEnd r x = 1
+
 pub ends-pay :
     (book : List ℕ) (r : ℕ) (s : State) →
-    howMany endsRoutine (turn book r s .told) + worth (λ q x. 1) r (turn book r s .state) ≤ worth (λ q x. 1) r s
+    howMany endsRoutine (turn book r s .told) + worth mayEnd r (turn book r s .state) ≤ worth mayEnd r s
 unfolding howMany
 ends-pay book r s =
-    pays book endsRoutine (λ q x. 1) r
+    pays book endsRoutine mayEnd r
     (λ x u q e told leaves says. omega (arith, says-none endsRoutine (λ n. refl) (λ b k. refl) (λ t. refl) says))
     (λ p t. refl) (λ x. omega arith) s

@@ -46,7 +46,7 @@ module _
       total-pays :
           (L : List ℕ) → Among r L → howMany test (turn book r s .told) + total left L (turn book r s .state) ≤ total left L s
       unfolding sumOver
-      total-pays (q ∷ qs) (inl e) = rw (← e) (omega (arith, pays r s l, over-le _ _ no-more qs))
+      total-pays (q ∷ qs) (inl e) = rw (← e) (omega (arith, pays r s l, over-le _ _ qs (λ q k. no-more q)))
       total-pays (q ∷ qs) (inr h) = omega (arith, no-more q, total-pays qs h)
 
     module _ (L : List ℕ) where

@@ -23,10 +23,10 @@ unfoldable pub sumOver : (ℕ → ℕ) → List ℕ → ℕ
 sumOver f [] = 0
 sumOver f (r ∷ rs) = f r + sumOver f rs
 
-pub over-le : (f g : ℕ → ℕ) → ((r : ℕ) → f r ≤ g r) → (rs : List ℕ) → sumOver f rs ≤ sumOver g rs
+pub over-le : (f g : ℕ → ℕ) (rs : List ℕ) → ((r : ℕ) → Among r rs → f r ≤ g r) → sumOver f rs ≤ sumOver g rs
 unfolding sumOver
-over-le f g h [] = omega arith
-over-le f g h (r ∷ rs) = omega (arith, h r, over-le f g h rs)
+over-le f g [] h = omega arith
+over-le f g (r ∷ rs) h = omega (arith, h r (inl refl), over-le f g rs (λ q k. h q (inr k)))
 
 -- a sum in which r alone may count otherwise, where r is not one of the numbers
 others-sum :
