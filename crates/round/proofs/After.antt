@@ -53,7 +53,7 @@ module _ (book : List ℕ) (a : Accepted book) where
   turn-keeps : (r : ℕ) (s : State) → r < routinesOf book → Sound book s → Kept s (turn book r s .state)
   turn-keeps r s l ok =
       let t = turn-turned book a r s l ok in
-      record { listed = t .standings .listed; suspended = t .standings .suspended; few = t .few }
+      record { listed = t .standings .listed; suspended = t .standings .suspended; few = t .flags .few }
 
   pub pass-keeps :
       (rs : List ℕ) → All (λ r. r < routinesOf book) rs → (s : State) → Sound book s →

@@ -161,7 +161,7 @@ module _ {book : List ℕ} {Listed : ℕ → Type 0} {Ok : State → Type 0} (la
       let first = turn book r s in
       let ok = laws .stays r s (a .0) k in
       let rest = pass book l (first .state) .told in
-      let (g, d) = caught-pass l (a .1) (λ q i. sub q (inr i)) (first .state) ok (laws .turned r s (a .0) k .eoi ∙ e) few b f c in
+      let (g, d) = caught-pass l (a .1) (λ q i. sub q (inr i)) (first .state) ok (laws .turned r s (a .0) k .flags .eoi ∙ e) few b f c in
       let i = sub r (inl refl) in
       subst (λ (h : List Happening). Owed book L s h × Caught h) (sym (append-assoc (first .told) rest b)) (
         owed-turn r s (a .0) k i (rest ++ b) e (passed laws l (a .1) (first .state) ok .few few) g,

@@ -80,7 +80,7 @@ module _ {book : List ℕ} {Listed : ℕ → Type 0} {Ok : State → Type 0} (la
       let first = turn book r s in
       done-append (first .turns) (pass book l (first .state) .turns) ∙
       both-true (closed-turn r s (a .0) k e)
-      (closed-pass l (a .1) (first .state) (laws .stays r s (a .0) k) (laws .turned r s (a .0) k .eoi ∙ e))
+      (closed-pass l (a .1) (first .state) (laws .stays r s (a .0) k) (laws .turned r s (a .0) k .flags .eoi ∙ e))
 
   module _ (L : List ℕ) (listed : All Listed L) where
     -- behind a pass without a move

@@ -22,6 +22,7 @@ use Rattle.round.specs.Rounds.{ticks, ticksOf}
 use Rattle.round.specs.Demand.{givesSignal, endsRoutine, Comes}
 use Rattle.round.proofs.Acts.{Right, Says}
 use Rattle.round.proofs.Stepping.{ticks-along}
+use Rattle.round.proofs.Standings.{StillThere}
 use Rattle.round.proofs.Effects.{Untouched, untouched-same, untouched-then, effect-untouched, Ungiven, ungiven, effect-ungiven}
 use Rattle.round.proofs.Effects.{same-things, Gave, give, give-number}
 use Rattle.round.proofs.Histories.{many-append, none-told, stops-none, somewhere-append, in-either, isGiven, given-by-signals}
@@ -30,7 +31,7 @@ use Rattle.round.proofs.Histories.{end-ends}
 -- state u comes of state s, with this told between them
 pub record Carries (s : State) (told : List Happening) (u : State) : Type 0 where
   pub present : length (u .present) ≡ length (s .present)
-  pub keeps : (t : Thing) → isThere s t ≡ true → isThere u t ≡ true
+  pub keeps : StillThere s u
   pub brings :
       length (s .present) ≡ mostSignals → (t : Thing) → isGiven t ≡ true → u .tooMany ≡ false → Somewhere (Comes t) told →
       isThere u t ≡ true

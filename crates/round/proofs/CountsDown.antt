@@ -38,12 +38,13 @@ use Rattle.round.proofs.Acts.{Asks}
 use Rattle.round.proofs.Timed.{timed-tick}
 use Rattle.round.proofs.TurnLaws.{isGoing}
 use Rattle.round.proofs.Sound.{Sound}
+use Rattle.round.proofs.Standings.{StillThere}
 use Rattle.round.proofs.Coming.{turn-untouched}
 use Rattle.round.proofs.After.{back}
 use Rattle.round.proofs.AfterTurn.{taken, turn-over, turn-taken, routine-after, position-after, after-going}
 use Rattle.round.proofs.Turned.{turn-turned}
 use Rattle.round.proofs.Again.{first-tick}
-use Rattle.round.proofs.FirstTurn.{Keeps, Completes, standsFirst, Due, due-standing, round-of-one}
+use Rattle.round.proofs.FirstTurn.{Completes, standsFirst, Due, due-standing, round-of-one}
 use Rattle.round.proofs.FirstTurn.{due-first, due-last, told-then, thing-past}
 
 -- a turn's first step halts it, or is completed
@@ -74,7 +75,7 @@ asked x s (joinFor {r}) some h = (end r, (AsksFor.joinFor, some), h)
 
 -- what is missing was missing before
 was-missing :
-    (s u : State) → Keeps s u → {st : Step} {n : ℕ} (timed : Timed st n) → hasThing u timed ≡ false → hasThing s timed ≡ false
+    (s u : State) → StillThere s u → {st : Step} {n : ℕ} (timed : Timed st n) → hasThing u timed ≡ false → hasThing s timed ≡ false
 was-missing s u keeps restFor m = refl
 was-missing s u keeps (waitFor {e}) m = not-true-false _ (λ h. clash (keeps (signal e) h) m)
 was-missing s u keeps (joinFor {r}) m = not-true-false _ (λ h. clash (keeps (end r) h) m)

@@ -27,7 +27,7 @@ use Rattle.round.specs.Actions.{positionOf}
 use Rattle.round.specs.Ticks.{mostNumbers, given, effectOn}
 use Rattle.round.specs.Demand.{Comes}
 use Rattle.round.proofs.Acts.{isGiving}
-use Rattle.round.proofs.Standings.{SameStanding, same-standing, standing-then, SameStandings}
+use Rattle.round.proofs.Standings.{SameStanding, same-standing, standing-then, SameStandings, StillThere}
 
 -- what no effect touches
 pub record Untouched (s u : State) : Type 0 where
@@ -146,7 +146,7 @@ numbers-append e (x ∷ l) m = chosen (eqb (x .0) e) (x .1) _ _ _ (numbers-appen
 -- signal e was given with its k-th number, or with none for k = 0
 pub record Gave (s : State) (e k : ℕ) (u : State) : Type 0 where
   pub present : length (u .present) ≡ length (s .present)
-  pub keeps : (t : Thing) → isThere s t ≡ true → isThere u t ≡ true
+  pub keeps : StillThere s u
   pub came : (t : Thing) → isThere s t ≡ false → isThere u t ≡ true → Comes t (gave e k)
   pub signalThere : e < length (s .present) → isThere u (signal e) ≡ true
   pub numberThere : u .tooMany ≡ false → isThere u (number e k) ≡ true
@@ -171,7 +171,7 @@ module _ (s : State) (e : ℕ) where
         moved = refl;
       }
     where
-      kept : (t : Thing) → isThere s t ≡ true → isThere (withNumbers (given s e) l over) t ≡ true
+      kept : StillThere s (withNumbers (given s e) l over)
       kept (signal f) h = entry-set (λ b. b ≡ true) (s .present) e true false f (λ at. refl) h
       kept (end r) h = h
       kept (number f j) h = le-leb j _ (le-trans (leb-true j _ h) (more f))

@@ -27,17 +27,13 @@ use Rattle.round.proofs.Histories.{somewhere-append, in-first, in-secon
 use Rattle.round.proofs.After.{back, round-along}
 use Rattle.round.proofs.Sound.{Sound}
 use Rattle.round.proofs.Starting.{among-listed, listed-stage}
-use Rattle.round.proofs.Standings.{SameStanding, same-standing}
+use Rattle.round.proofs.Standings.{SameStanding, same-standing, StillThere}
 use Rattle.round.proofs.Turned.{turn-turned}
 use Rattle.round.proofs.Again.{misses-again, goes-past}
 use Rattle.round.proofs.Closing.{there-again}
 use Rattle.round.proofs.CatchingUp.{never-missing}
 use Rattle.round.proofs.Demand.{none-going, demand-3}
 use Rattle.round.proofs.Tried.{came, lacked}
-
--- what is there in state s is there in state u
-abbrev pub Keeps : State → State → Type 0
-Keeps s u = (t : Thing) → isThere s t ≡ true → isThere u t ≡ true
 
 -- routine r completes the step at place p
 abbrev pub Completes : ℕ → ℕ → List Happening → Type 0
@@ -75,7 +71,7 @@ module _ (book : List ℕ) (a : Accepted book) (g : Game) (f : Fits book g) (r :
       (Claim : State → List Happening → State → Type 0)
       (both : (s u v : State) (b c : List Happening) → Claim s b u → Claim u c v → Claim s (b ++ c) v)
       (others :
-      (s u : State) (told : List Happening) → SameStanding (routineAt (u .game) r) (routineAt (s .game) r) → Keeps s u → Claim s told u)
+      (s u : State) (told : List Happening) → SameStanding (routineAt (u .game) r) (routineAt (s .game) r) → StillThere s u → Claim s told u)
       (own : (s : State) → r < routinesOf book → Sound book s → Claim s (turn book r s .told) (turn book r s .state))
     where
       each-turn :

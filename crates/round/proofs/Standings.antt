@@ -1,10 +1,12 @@
 -- How each routine stands in a state of a round: its stage, whether it is suspended, and its position. These alone decide whether it takes
--- a turn and where the turn begins, so a routine that stands the same in two states has been left alone between them.
+-- a turn and where the turn begins, so a routine that stands the same in two states has been left alone between them. And that what is
+-- there in one state is there in another.
 use Prim.Native.Nat.{ℕ}
 use mathlib.Core.Path.{_≡_, refl, _∙_}
+use mathlib.Core.Bool.{true}
 use Rattle.game.specs.declared.Routine.{Routine}
 use Rattle.game.specs.Game.{routineAt}
-use Rattle.round.specs.State.{State}
+use Rattle.round.specs.State.{State, Thing, isThere}
 use Rattle.round.specs.Actions.{positionOf}
 
 -- x stands as y does
@@ -23,3 +25,7 @@ standing-then a b =
 -- each routine stands in state u as in state s
 abbrev pub SameStandings : State → State → Type 0
 SameStandings s u = (q : ℕ) → SameStanding (routineAt (u .game) q) (routineAt (s .game) q)
+
+-- what is there in state s is there in state u
+abbrev pub StillThere : State → State → Type 0
+StillThere s u = (t : Thing) → isThere s t ≡ true → isThere u t ≡ true

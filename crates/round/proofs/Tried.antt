@@ -28,7 +28,7 @@ module _ (book : List ℕ) (a : Accepted book) where
       (r : ℕ) (s : State) → r < routinesOf book → Sound book s → Becomes s (turn book r s .told) (turn book r s .state)
   turn-becomes r s l ok =
       let t = turn-turned book a r s l ok in
-      becomes-by (t .few) (t .keeps) (t .brings) (t .came) (turn-order book a r s ok)
+      becomes-by (t .flags .few) (t .keeps) (t .brings) (t .came) (turn-order book a r s ok)
 
   module _ (g : Game) (f : Fits book g) where
     all : Becomes (atStart g) (historyOf book g) (round book g .played .state)

@@ -22,6 +22,7 @@ use Rattle.round.proofs.Acts.{Right, Says, Stops}
 use Rattle.round.proofs.Histories.{says-none, somewhere-append, in-first, in-second}
 use Rattle.round.proofs.Stepping.{ticks-by}
 use Rattle.round.proofs.Sound.{Sound}
+use Rattle.round.proofs.Standings.{StillThere}
 use Rattle.round.proofs.Coming.{goes-carries, all-brought}
 use Rattle.round.proofs.Fitting.{effect-sound}
 use Rattle.round.proofs.AfterTurn.{after-few, turn-by}
@@ -130,7 +131,7 @@ becomes-same many same =
 
 -- by what stays, what comes and what is new
 pub becomes-by :
-    {s u : State} {told : List Happening} → (u .tooMany ≡ false → s .tooMany ≡ false) → ((t : Thing) → There s t → There u t) →
+    {s u : State} {told : List Happening} → (u .tooMany ≡ false → s .tooMany ≡ false) → StillThere s u →
     ((t : Thing) → u .tooMany ≡ false → Somewhere (Comes t) told → There u t) →
     ((t : Thing) → isThere s t ≡ false → There u t → Somewhere (Comes t) told) → (u .tooMany ≡ false → InOrder (There s) told) →
     Becomes s told u

@@ -2,10 +2,11 @@
 -- catching up follow. They hold for the listed routines, in the states that keep what a round keeps; a turn's effect on the state is one of
 -- them (Turned).
 use Prim.Native.Nat.{ℕ, _+_, _<_}
-use mathlib.Core.Path.{_≡_, sym, ap, subst}
+use mathlib.Core.Path.{_≡_, refl, sym, ap, subst}
 use mathlib.Core.Bool.{Bool, true, false, _||_, not}
 use mathlib.Core.List.{List, [], _∷_, _++_}
 use mathlib.Core.Logic.{_≢_}
+use native.Mathlib.Omega.{arith}
 use lib.Dec.{eqb}
 use Rattle.kinds.specs.Steps.{stepAt}
 use Rattle.layout.specs.Layout.{countsOf}
@@ -23,7 +24,7 @@ use Rattle.round.specs.Rounds.{passedOver, took, isDone, again, turn}
 use Rattle.round.specs.Demand.{givesSignal, endsRoutine, Comes, IsPast}
 use Rattle.round.specs.Whole.{isMiss}
 use Rattle.round.proofs.Acts.{Asks}
-use Rattle.round.proofs.Standings.{SameStanding}
+use Rattle.round.proofs.Standings.{SameStanding, StillThere}
 
 -- routine r takes a turn in this state (rule 34), and is not passed over (rule 33)
 abbrev pub takesTurn : Routine → Bool
@@ -42,16 +43,24 @@ pub record OthersStand (r : ℕ) (g h : Game) : Type 0 where
   pub suspended : (q : ℕ) → routineAt h q .suspended ≡ routineAt g q .suspended
   pub others : (q : ℕ) → q ≢ r → SameStanding (routineAt h q) (routineAt g q)
 
+-- the flags from one state to another, with this told between them
+pub record Passed (s : State) (told : List Happening) (u : State) : Type 0 where
+  pub eoi : u .eoi ≡ s .eoi
+  pub few : u .tooMany ≡ false → s .tooMany ≡ false
+  pub unmoved : moves told ≡ 0 → u .moved ≡ s .moved
+  pub moved : 0 < moves told → u .moved ≡ true
+
+pub passed-same : (s : State) → Passed s [] s
+unfolding howMany
+passed-same s = record { eoi = refl; few = λ f. f; unmoved = λ m. refl; moved = λ m. absurd (omega arith) }
+
 -- what a turn of routine r in state s does, which told this and leaves state v
 pub record Turned (r : ℕ) (s : State) (told : List Happening) (v : State) : Type 0 where
   pub standings : OthersStand r (s .game) (v .game)
-  pub eoi : v .eoi ≡ s .eoi
-  pub keeps : (t : Thing) → isThere s t ≡ true → isThere v t ≡ true
+  pub flags : Passed s told v
+  pub keeps : StillThere s v
   pub brings : (t : Thing) → v .tooMany ≡ false → Somewhere (Comes t) told → isThere v t ≡ true
   pub came : (t : Thing) → isThere s t ≡ false → isThere v t ≡ true → Somewhere (Comes t) told
-  pub few : v .tooMany ≡ false → s .tooMany ≡ false
-  pub unmoved : moves told ≡ 0 → v .moved ≡ s .moved
-  pub moved : 0 < moves told → v .moved ≡ true
 
 -- the other routines take turns as before
 pub others-going :

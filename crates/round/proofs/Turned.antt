@@ -31,25 +31,21 @@ use Rattle.round.proofs.Acts.{Stops}
 use Rattle.round.proofs.Coming.{Carries, all-brought, turn-untouched, ticks-carry}
 use Rattle.round.proofs.Effects.{Untouched}
 use Rattle.round.proofs.Histories.{many-append, none-of-both, none-told, somewhere-append, in-second, end-ends}
-use Rattle.round.proofs.Standings.{SameStanding, same-standing}
+use Rattle.round.proofs.Standings.{SameStanding, same-standing, StillThere}
 use Rattle.round.proofs.AfterTurn.{going-parts, turn-by, placed-there}
 use Rattle.round.proofs.Shaping.{Shape}
-use Rattle.round.proofs.TurnLaws.{moves, OthersStand, Turned}
+use Rattle.round.proofs.TurnLaws.{moves, OthersStand, passed-same, Turned}
 use Rattle.round.proofs.Sound.{Sound}
 use Rattle.round.proofs.Outcomes.{turn-shape}
 
 passed-over : {r : ℕ} {s : State} → Turned r s [] s
-unfolding howMany
-passed-over =
+passed-over {s = s} =
     record {
       standings = record { listed = refl; suspended = λ q. refl; others = λ q n. same-standing };
-      eoi = refl;
+      flags = passed-same s;
       keeps = λ t h. h;
       brings = λ t h k. absurd k;
       came = λ t h k. clash k h;
-      few = λ h. h;
-      unmoved = λ h. refl;
-      moved = λ h. absurd (omega arith);
     }
 
 end-of : {q r : ℕ} → Comes (end q) (ended r) → q ≡ r
@@ -96,13 +92,16 @@ module _
       resting-turned =
           record {
             standings = placed-standings next y;
-            eoi = a .eoi;
+            flags =
+                record {
+                  eoi = a .eoi;
+                  few = c .few;
+                  unmoved = λ h. c .unmoved (omega arith);
+                  moved = λ h. c .moved (omega arith);
+                };
             keeps = λ t h. same-there t ∙ c .keeps t h;
             brings = λ t h k. same-there t ∙ all-brought c signals noEnd t h k;
             came = λ t h k. c .came t h (sym (same-there t) ∙ k);
-            few = c .few;
-            unmoved = λ h. c .unmoved (omega arith);
-            moved = λ h. c .moved (omega arith);
           }
 
     -- a turn that ends it
@@ -124,7 +123,7 @@ module _
         others-there q n =
             rw (getD-set-other (u .endSignals) r q true false n, getD-set-other (u .game .routines) r q _ blank n)
 
-        stays : (t : Thing) → isThere u t ≡ true → isThere last t ≡ true
+        stays : StillThere u last
         unfolding isThere
         stays (signal e) h = h
         stays (end q) h = elim (ℕ-discrete q r) [ yes e ↦ rw e end-there | no n ↦ others-there q n ∙ h ]
@@ -157,13 +156,10 @@ module _
         ending-turned =
             record {
               standings = placed-standings stage.ended y;
-              eoi = a .eoi;
+              flags = record { eoi = a .eoi; few = c .few; unmoved = λ h. absurd (omega (arith, some-move)); moved = λ h. refl };
               keeps = λ t h. stays t (c .keeps t h);
               brings = brought;
               came = λ t h k. by-flag (isThere u t) (c .came t h) (λ e. new t e k);
-              few = c .few;
-              unmoved = λ h. absurd (omega (arith, some-move));
-              moved = λ h. refl;
             }
 
     -- by how the turn's last step halts it

@@ -11,27 +11,16 @@ use native.Mathlib.Omega.{arith}
 use Rattle.numbers.proofs.Tests.{and-both, not-true-false, by-flag}
 use Rattle.numbers.proofs.Tests.{clash}
 use Rattle.round.specs.State.{State, Happening}
-use Rattle.round.specs.History.{howMany, Among}
+use Rattle.round.specs.History.{Among}
 use Rattle.round.specs.Rounds.{Turn, took, Played, followedBy, isDone, allDone, turn, pass}
 use Rattle.round.proofs.Along.{All, pass-along}
 use Rattle.round.proofs.Histories.{moves-append, nothing-comes}
-use Rattle.round.proofs.TurnLaws.{isGoing, moves, others-going, waits-too, Lacks, TurnLaws}
+use Rattle.round.proofs.TurnLaws.{isGoing, moves, Passed, passed-same, others-going, waits-too, Lacks, TurnLaws}
 
 pub done-append : (a b : List Turn) → allDone (a ++ b) ≡ (allDone a && allDone b)
 unfolding allDone
 done-append [] b = refl
 done-append (t ∷ a) b = ap (λ d. isDone t && d) (done-append a b) ∙ sym (and-assoc (isDone t) (allDone a) (allDone b))
-
--- from one state to another, with this told between them
-pub record Passed (s : State) (told : List Happening) (u : State) : Type 0 where
-  pub eoi : u .eoi ≡ s .eoi
-  pub few : u .tooMany ≡ false → s .tooMany ≡ false
-  pub unmoved : moves told ≡ 0 → u .moved ≡ s .moved
-  pub moved : 0 < moves told → u .moved ≡ true
-
-passed-same : (s : State) → Passed s [] s
-unfolding howMany
-passed-same s = record { eoi = refl; few = λ f. f; unmoved = λ m. refl; moved = λ m. absurd (omega arith) }
 
 passed-then : (s u v : State) (a b : List Happening) → Passed s a u → Passed u b v → Passed s (a ++ b) v
 passed-then s u v a b x y =
@@ -55,9 +44,7 @@ module _ {book : List ℕ} {Listed : ℕ → Type 0} {Ok : State → Type 0} (la
       (l : List ℕ) → All Listed l → (s : State) → Ok s →
       Ok (pass book l s .state) × Passed s (pass book l s .told) (pass book l s .state)
   stays-passed =
-      pass-along Passed passed-same passed-then book Ok Listed (laws .stays) (λ r s l k.
-      let t = laws .turned r s l k in
-      record { eoi = t .eoi; few = t .few; unmoved = t .unmoved; moved = t .moved })
+      pass-along Passed passed-same passed-then book Ok Listed (laws .stays) (λ r s l k. laws .turned r s l k .flags)
 
   pub passed : (l : List ℕ) → All Listed l → (s : State) → Ok s → Passed s (pass book l s .told) (pass book l s .state)
   passed l a s k = stays-passed l a s k .1
