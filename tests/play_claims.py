@@ -71,8 +71,8 @@ use Rattle.round.specs.declared.Ending.the-variants.{Continued}
 use Rattle.round.specs.State.{State}
 use Rattle.round.specs.Actions.{positionOf, atStart}
 use Rattle.round.specs.Ticks.{tickAt, tick, fresh}
-use Rattle.round.specs.Rounds.{Ticks, follow, ticks, mostTicks, afterTurn, passedOver, took, Played, followedBy, allDone, again}
-use Rattle.round.specs.Rounds.{Round, mostPasses, listedIn, ticksOf, turn, pass, instant, round}
+use Rattle.round.specs.Rounds.{Ticks, follow, ticks, mostTicks, Played, notTaken, taken, followedBy, again}
+use Rattle.round.specs.Rounds.{Round, passThen, mostPasses, listedIn, ticksOf, turn, pass, instant, round}
 
 -- the step of eight bytes
 abbrev stepOfBytes : Counts → (ℕ → ℕ) → Step
@@ -171,10 +171,7 @@ ticks-by (suc n) counts r steps x s =
 abbrev turnBy : (ℕ → State → Ticks) → ℕ → State → Played
 turnBy ticking r s =
     let x = routineAt (s .game) r in
-    let t = ticking r s in
-    if x .suspended || not (eqb (x .stage) continuing)
-    then record { state = s; told = []; turns = passedOver ∷ [] }
-    else record { state = afterTurn r t; told = t .told; turns = took (t .ending) ∷ [] }
+    if x .suspended || not (eqb (x .stage) continuing) then notTaken s else taken r (ticking r s)
 
 abbrev ticksIn : List ℕ → ℕ → State → Ticks
 ticksIn book r s =
@@ -204,28 +201,19 @@ module _ (turning : ℕ → State → Played) where
   instantBy zero rs s = record { played = record { state = s; told = []; turns = [] }; passes = 0 }
   instantBy (suc n) rs s =
       let first = passBy rs s in
-      let others = instantBy n rs (again (first .state)) in
-      if allDone (first .turns)
-      then record { played = first; passes = 1 }
-      else record { played = followedBy first (others .played); passes = others .passes + 1 }
+      passThen first (instantBy n rs (again (first .state)))
 
 pass-by : (book rs : List ℕ) (s : State) → pass book rs s ≡ passBy (turn book) rs s
 unfolding pass passBy
 pass-by book [] s = refl
 pass-by book (r ∷ rs) s = ap (followedBy (turn book r s)) (pass-by book rs (turn book r s .state))
 
-abbrev andOthers : Played → Round → Round
-andOthers first others =
-    if allDone (first .turns)
-    then record { played = first; passes = 1 }
-    else record { played = followedBy first (others .played); passes = others .passes + 1 }
-
 instant-by : (book : List ℕ) (n : ℕ) (rs : List ℕ) (s : State) → instant book n rs s ≡ instantBy (turn book) n rs s
 unfolding instant instantBy
 instant-by book zero rs s = refl
 instant-by book (suc n) rs s =
-    ap (λ first. andOthers first (instant book n rs (again (first .state)))) (pass-by book rs s)
-    ∙ ap (andOthers (passBy (turn book) rs s)) (instant-by book n rs (again (passBy (turn book) rs s .state)))
+    ap (λ first. passThen first (instant book n rs (again (first .state)))) (pass-by book rs s)
+    ∙ ap (passThen (passBy (turn book) rs s)) (instant-by book n rs (again (passBy (turn book) rs s .state)))
 
 abbrev pub roundIn : List ℕ → Game → Round
 roundIn book g = instantBy (turnBy (ticksIn book)) mostPasses (listedIn g) (atStart g)

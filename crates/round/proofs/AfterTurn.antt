@@ -3,7 +3,7 @@
 use Prim.Native.Nat.{ℕ, _<_}
 use mathlib.Core.Path.{_≡_, refl, sym, ap, _∙_}
 use mathlib.Core.Bool.{Bool, true, false, _||_, not, Bool·not-not}
-use mathlib.Core.List.{List, [], _∷_}
+use mathlib.Core.List.{List}
 use native.Mathlib.Decide.{decLt}
 use native.Mathlib.Omega.{arith}
 use borrow.Author.Tests.{eqb-true}
@@ -19,7 +19,7 @@ use Rattle.round.specs.declared.Ending.the-variants.{Ended, Rested, Miss
 use Rattle.round.specs.declared.Position.{Position}
 use Rattle.round.specs.State.{State, withGame, Thing, signal, end, number, isThere}
 use Rattle.round.specs.Actions.{positionOf, placed}
-use Rattle.round.specs.Rounds.{Ticks, stageAfter, withEnd, afterTurn, passedOver, took, Played, isDone, ticksOf, turn}
+use Rattle.round.specs.Rounds.{Ticks, stageAfter, withEnd, afterTurn, took, Played, notTaken, taken, isDone, ticksOf, turn}
 use Rattle.round.proofs.Effects.{same-end}
 use Rattle.round.proofs.Standings.{SameStanding}
 use Rattle.round.proofs.TurnLaws.{isGoing}
@@ -48,25 +48,18 @@ end-keeps P Continued r s over h = h
 pub after-few : (r : ℕ) (t : Ticks) → afterTurn r t .tooMany ≡ false → t .state .tooMany ≡ false
 after-few r t = end-keeps (λ u. u .tooMany ≡ false → t .state .tooMany ≡ false) (t .ending) r _ (λ h. h) (λ h. h)
 
--- a turn that is passed over in state s, and one of routine r that takes these steps
-abbrev passed : State → Played
-passed s = record { state = s; told = []; turns = passedOver ∷ [] }
-
-abbrev pub taken : ℕ → Ticks → Played
-taken r t = record { state = afterTurn r t; told = t .told; turns = took (t .ending) ∷ [] }
-
 -- rules 33 and 34
 module _ (book : List ℕ) (r : ℕ) (s : State) where
   pub turn-by :
-      (P : Played → Type 0) → (isGoing s r ≡ false → P (passed s)) → (isGoing s r ≡ true → P (taken r (ticksOf book r s))) →
+      (P : Played → Type 0) → (isGoing s r ≡ false → P (notTaken s)) → (isGoing s r ≡ true → P (taken r (ticksOf book r s))) →
       P (turn book r s)
   unfolding turn
   turn-by P over on =
       let x = routineAt (s .game) r in
       by-test P (x .suspended || not (eqb (x .stage) continuing)) (λ h. over (ap not h)) (λ h. on (ap not h))
 
-  pub turn-over : isGoing s r ≡ false → turn book r s ≡ passed s
-  turn-over h = turn-by (λ p. p ≡ passed s) (λ g. refl) (λ g. clash g h)
+  pub turn-over : isGoing s r ≡ false → turn book r s ≡ notTaken s
+  turn-over h = turn-by (λ p. p ≡ notTaken s) (λ g. refl) (λ g. clash g h)
 
   pub turn-taken : isGoing s r ≡ true → turn book r s ≡ taken r (ticksOf book r s)
   turn-taken h = turn-by (λ p. p ≡ taken r (ticksOf book r s)) (λ g. clash h g) (λ g. refl)

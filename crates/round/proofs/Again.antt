@@ -23,12 +23,12 @@ use Rattle.round.specs.State.{State, withGame, Thing, Happening, missing
 use Rattle.round.specs.Actions.{positionOf, placed}
 use Rattle.round.specs.Jumps.{sizeOf}
 use Rattle.round.specs.Ticks.{Tick, tick, fresh}
-use Rattle.round.specs.Rounds.{Ticks, follow, ticks, afterTurn, took, Played, isDone, ticksOf, turn}
+use Rattle.round.specs.Rounds.{Ticks, follow, ticks, afterTurn, took, Played, taken, isDone, ticksOf, turn}
 use Rattle.round.specs.Demand.{IsPast}
 use Rattle.round.specs.Again.{TriesAgain}
 use Rattle.round.proofs.TurnLaws.{isGoing, Waits, waits-too}
 use Rattle.round.proofs.Asking.{asked-there, asked-missing}
-use Rattle.round.proofs.AfterTurn.{going-parts, taken, turn-over, turn-taken}
+use Rattle.round.proofs.AfterTurn.{going-parts, turn-over, turn-taken}
 use Rattle.round.proofs.Outcomes.{turn-out, turn-continues}
 
 -- the first step of a turn settles it, or the others follow

@@ -30,7 +30,7 @@ use Rattle.round.specs.History.{Among}
 use Rattle.round.specs.Actions.{positionOf, atStart}
 use Rattle.round.specs.Jumps.{sizeOf}
 use Rattle.round.specs.Ticks.{begunAt, countAt, tickAt, tick, fresh}
-use Rattle.round.specs.Rounds.{Ticks, follow, ticks, mostTicks, stageAfter, took, Played, isDone, listedIn}
+use Rattle.round.specs.Rounds.{Ticks, follow, ticks, mostTicks, stageAfter, took, Played, taken, isDone, listedIn}
 use Rattle.round.specs.Rounds.{ticksOf, turn, historyOf}
 use Rattle.round.specs.Demand.{AsksFor}
 use Rattle.round.specs.Timed.{hasThing, isPausing, TimedRound, CountsDown}
@@ -41,7 +41,7 @@ use Rattle.round.proofs.Sound.{Sound}
 use Rattle.round.proofs.Standings.{StillThere}
 use Rattle.round.proofs.Coming.{turn-untouched}
 use Rattle.round.proofs.After.{back}
-use Rattle.round.proofs.AfterTurn.{taken, turn-over, turn-taken, routine-after, position-after, after-going}
+use Rattle.round.proofs.AfterTurn.{turn-over, turn-taken, routine-after, position-after, after-going}
 use Rattle.round.proofs.Turned.{turn-turned}
 use Rattle.round.proofs.Again.{first-tick}
 use Rattle.round.proofs.FirstTurn.{Completes, standsFirst, Due, due-standing, round-of-one}

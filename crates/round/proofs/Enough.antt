@@ -8,7 +8,6 @@ use mathlib.Core.List.{List}
 use mathlib.Core.Logic.{inl, inr}
 use native.Mathlib.Omega.{arith}
 use lib.ListN.{length}
-use Rattle.numbers.specs.Choice.{if_then_else_}
 use Rattle.numbers.proofs.Tests.{by-test}
 use Rattle.kinds.specs.declared.Counts.{Counts}
 use Rattle.layout.specs.Layout.{mostRoutines, routinesOf, countsOf}
@@ -24,7 +23,7 @@ use Rattle.round.specs.State.{State}
 use Rattle.round.specs.History.{countBelow, stepsIn, howMany}
 use Rattle.round.specs.Actions.{atStart}
 use Rattle.round.specs.Ticks.{tick, fresh, effectOn}
-use Rattle.round.specs.Rounds.{follow, ticks, Played, followedBy, allDone, Round, mostPasses, listedIn, turn, pass, instant, round}
+use Rattle.round.specs.Rounds.{follow, ticks, passThen, mostPasses, listedIn, turn, pass, instant, round}
 use Rattle.round.specs.Enough.{IfItGoesOn, InTime, RoundEnds, Enough}
 use Rattle.round.specs.Demand.{isSignalStep, givesSignal, endsRoutine}
 use Rattle.round.proofs.Along.{All, among-all}
@@ -61,13 +60,6 @@ module _ (counts : Counts) (r : ℕ) (steps : List ℕ) where
           follow r (x .place) act (tick counts r steps x s .told) s (λ q u. ticks n counts r steps (fresh q) u)
       behind (Goes q e) h on = rw (on q (effectOn e s) h)
       behind (Halts how y) h on = refl
-
--- rules 37 and 38: a pass, and the others unless all are done
-abbrev passThen : Played → Round → Round
-passThen first others =
-    if allDone (first .turns)
-    then record { played = first; passes = 1 }
-    else record { played = followedBy first (others .played); passes = others .passes + 1 }
 
 -- where n passes are enough for a round, it comes out the same with more
 more-passes :

@@ -20,7 +20,7 @@ use Rattle.round.specs.declared.Position.{Position}
 use Rattle.round.specs.State.{State, Thing, Happening, missing, isThere}
 use Rattle.round.specs.Actions.{positionOf}
 use Rattle.round.specs.History.{howMany, Somewhere}
-use Rattle.round.specs.Rounds.{passedOver, took, isDone, again, turn}
+use Rattle.round.specs.Rounds.{took, notTaken, isDone, again, turn}
 use Rattle.round.specs.Demand.{givesSignal, endsRoutine, Comes, IsPast}
 use Rattle.round.specs.Whole.{isMiss}
 use Rattle.round.proofs.Acts.{Asks}
@@ -109,9 +109,7 @@ module _ (book : List ℕ) where
     -- what a turn does to the things, to the flags and to where routines stand
     pub turned : (r : ℕ) (s : State) → Listed r → Ok s → Turned r s (turn book r s .told) (turn book r s .state)
     -- how a turn comes out
-    pub over :
-        (r : ℕ) (s : State) → Listed r → Ok s → isGoing s r ≡ false →
-        turn book r s ≡ record { state = s; told = []; turns = passedOver ∷ [] }
+    pub over : (r : ℕ) (s : State) → Listed r → Ok s → isGoing s r ≡ false → turn book r s ≡ notTaken s
     pub out :
         (r : ℕ) (s : State) → Listed r → Ok s → isGoing s r ≡ true →
         (h : Ending) × (turn book r s .turns ≡ took h ∷ []) × (isGoing (turn book r s .state) r ≡ not (isDone (took h)))

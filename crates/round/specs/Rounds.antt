@@ -83,6 +83,14 @@ pub record Played : Type 0 where
   pub told : List Happening
   pub turns : List Turn
 
+-- rule 33: a routine is passed over in state s
+abbrev pub notTaken : State → Played
+notTaken s = record { state = s; told = []; turns = passedOver ∷ [] }
+
+-- rule 34: a turn of routine r in which it takes these steps
+abbrev pub taken : ℕ → Ticks → Played
+taken r t = record { state = afterTurn r t; told = t .told; turns = took (t .ending) ∷ [] }
+
 abbrev pub followedBy : Played → Played → Played
 followedBy a b = record { state = b .state; told = a .told ++ b .told; turns = a .turns ++ b .turns }
 
@@ -108,6 +116,13 @@ pub record Round : Type 0 where
   pub played : Played
   pub passes : ℕ
 
+-- rules 37 and 38: a pass, and the others behind it unless all are done
+abbrev pub passThen : Played → Round → Round
+passThen first others =
+    if allDone (first .turns)
+    then record { played = first; passes = 1 }
+    else record { played = followedBy first (others .played); passes = others .passes + 1 }
+
 -- the passes that a round may take: a pass that gives a signal or ends a routine uses up a signal step or a routine, of which a largest
 -- book has mostSteps and mostRoutines, and behind a pass that does neither there is at most one more; that they are enough is
 -- Enough.antt's claim
@@ -129,10 +144,7 @@ module _ (book : List ℕ) where
   unfoldable pub turn : ℕ → State → Played
   turn r s =
       let x = routineAt (s .game) r in
-      let t = ticksOf r s in
-      if x .suspended || not (eqb (x .stage) continuing)
-      then record { state = s; told = []; turns = passedOver ∷ [] }
-      else record { state = afterTurn r t; told = t .told; turns = took (t .ending) ∷ [] }
+      if x .suspended || not (eqb (x .stage) continuing) then notTaken s else taken r (ticksOf r s)
 
   -- rules 35 and 36: the listed routines in order
   unfoldable pub pass : List ℕ → State → Played
@@ -146,10 +158,7 @@ module _ (book : List ℕ) where
   instant zero rs s = record { played = record { state = s; told = []; turns = [] }; passes = 0 }
   instant (suc n) rs s =
       let first = pass rs s in
-      let others = instant n rs (again (first .state)) in
-      if allDone (first .turns)
-      then record { played = first; passes = 1 }
-      else record { played = followedBy first (others .played); passes = others .passes + 1 }
+      passThen first (instant n rs (again (first .state)))
 
   -- a round: the eight actions, then its passes
   unfoldable pub round : Game → Round

@@ -25,7 +25,7 @@ use Rattle.round.specs.declared.Position.{Position}
 use Rattle.round.specs.State.{State}
 use Rattle.round.specs.Actions.{positionOf}
 use Rattle.round.specs.Jumps.{sizeOf}
-use Rattle.round.specs.Rounds.{Ticks, mostTicks, afterTurn, passedOver, took, Played, allDone, again, ticksOf, turn, pass, instant}
+use Rattle.round.specs.Rounds.{Ticks, mostTicks, afterTurn, took, Played, notTaken, taken, allDone, again, ticksOf, turn, pass, instant}
 use Rattle.round.specs.Answers.{marksIn}
 use Rattle.round.specs.Enough.{RoundEnds}
 use Rattle.round.proofs.Along.{All}
@@ -35,7 +35,7 @@ use Rattle.round.proofs.TurnLaws.{isGoing}
 use Rattle.round.proofs.Parsed.{size-same}
 use Rattle.round.proofs.Lasting.{routine-in-time}
 use Rattle.round.proofs.Coming.{turn-untouched}
-use Rattle.round.proofs.AfterTurn.{going-parts, after-few, position-after, taken, turn-by, turn-taken}
+use Rattle.round.proofs.AfterTurn.{going-parts, after-few, position-after, turn-by, turn-taken}
 use Rattle.round.proofs.Staying.{turn-sound, again-sound}
 use Rattle.round.proofs.Turned.{turn-turned}
 use Rattle.round.proofs.After.{pass-keeps, instant-keeps}
@@ -112,7 +112,7 @@ module _ (book : List ℕ) (a : Accepted book) where
           ]
 
       module _ (ms : Marks) where
-        turn-over-rule : isGoing s r ≡ false → TurnRule book a r run s ms (record { state = s; told = []; turns = passedOver ∷ [] })
+        turn-over-rule : isGoing s r ≡ false → TurnRule book a r run s ms (notTaken s)
         unfolding allDone marksIn
         turn-over-rule h =
             let why : (has (view s ms .threads .susp) r ≡ true) ⊎ (statusOf (view s ms) r ≢ is CONT) =
