@@ -136,6 +136,3 @@ module _ (book : List ℕ) (g : Game) (range : CountsInRange book) (f : Fits boo
   pub at-start-entries : entriesOf (atStart g .game .listed) ≡ staying g
   unfolding atStart
   at-start-entries = entries-same (staying g) staying-short
-
-  pub at-start-listed : All (λ r. r < routinesOf book) (entriesOf (atStart g .game .listed))
-  at-start-listed = rw at-start-entries (kept-below (stays g))

@@ -68,9 +68,6 @@ module _ (book : List ℕ) (a : Accepted book) where
       again-sound (λ s. flags-keep s)
 
   module _ (g : Game) (f : Fits book g) where
-    below : All (λ r. r < routinesOf book) (listedIn g)
-    below = listed-below book g a f
-
     -- what holds of each turn of a listed routine in a sound state holds of a round
     pub round-along :
         (Claim : State → List Happening → State → Type 0) → ((s : State) → Claim s [] s) →
@@ -83,11 +80,11 @@ module _ (book : List ℕ) (a : Accepted book) where
         let L = listedIn g in
         let Below : ℕ → Type 0 = λ r. r < routinesOf book in
         instant-along Claim none both book (Sound book) (λ r. Below r × Among r L) (λ r s l. turn-sound book a r s (l .0)) turns
-        again-sound agains mostPasses L (all-among Below L below) (atStart g) (at-start-sound book g a f) .1
+        again-sound agains mostPasses L (all-among Below L (listed-below book g a f)) (atStart g) (at-start-sound book g a f) .1
 
     pub round-keeps : Sound book (back book g) × Kept (atStart g) (back book g)
     unfolding round
-    round-keeps = instant-keeps mostPasses (listedIn g) below (atStart g) (at-start-sound book g a f)
+    round-keeps = instant-keeps mostPasses (listedIn g) (listed-below book g a f) (atStart g) (at-start-sound book g a f)
 
     pub round-fits : Fits book (back book g .game)
     round-fits = round-keeps .0 .fits

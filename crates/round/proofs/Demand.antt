@@ -27,7 +27,6 @@ use Rattle.round.specs.Tells.{RoundTells}
 use Rattle.round.specs.Demand.{Demand3}
 use Rattle.round.proofs.Given.{too-many}
 use Rattle.round.proofs.Telling.{round-told-only, answer-verdict, accepted-played}
-use Rattle.round.proofs.Sound.{Sound}
 use Rattle.round.proofs.Starting.{listed-below, at-start-sound, among-listed}
 use Rattle.round.proofs.Passes.{FairRound, fair-round}
 use Rattle.round.proofs.TurnLaws.{isGoing}
@@ -49,13 +48,10 @@ module _ (book : List ℕ) (a : Accepted book) (g : Game) (f : Fits book g) wher
   abbrev last : State
   last = round book g .played .state
 
-  start-sound : Sound book (atStart g)
-  start-sound = at-start-sound book g a f
-
   fair : FairRound (listedIn g) (round book g)
   unfolding round atStart
   fair =
-      fair-round (turn-laws book a) (listedIn g) (listed-below book g a f) mostPasses (atStart g) start-sound refl refl
+      fair-round (turn-laws book a) (listedIn g) (listed-below book g a f) mostPasses (atStart g) (at-start-sound book g a f) refl refl
       (enough book a g f .passes)
 
   -- no listed routine is left to take a turn
@@ -73,7 +69,7 @@ module _ (book : List ℕ) (a : Accepted book) (g : Game) (f : Fits book g) wher
       let (sound, kept) = round-keeps book a g f in
       let fits = sound .fits in
       let (k, l, e) = among-listed book g a f r i in
-      let lower : r < routinesOf book = subst (λ q. q < routinesOf book) e (start-sound .fits .entriesInRange .0 k l) in
+      let lower : r < routinesOf book = subst (λ q. q < routinesOf book) e (at-start-sound book g a f .fits .entriesInRange .0 k l) in
       let here : In (last .game .listed) r = rw (kept .listed) (k, l, e) in
       let off = none-going r i in
       rests-or-ends (routineAt (last .game) r .stage) (fits .stagesInRange r lower)

@@ -31,7 +31,6 @@ use Rattle.round.proofs.Acts.{Stops, ends, rests, misses, continues}
 use Rattle.round.proofs.Counting.{one}
 use Rattle.round.proofs.Sums.{sumOver, own-sum, none-sum, alone-sum, kept-sum}
 use Rattle.round.proofs.Histories.{none-of-all, many-append, none-told}
-use Rattle.round.proofs.Along.{Distinct}
 use Rattle.round.proofs.After.{back, round-along}
 use Rattle.round.proofs.Sound.{Sound}
 use Rattle.round.proofs.Starting.{listed-distinct, among-listed, listed-stage}
@@ -105,9 +104,6 @@ abbrev counted : (Happening → Bool) → State → ℕ → ℕ
 counted test s r = one (test (ended r) && isEnded s r)
 
 module _ (book : List ℕ) (a : Accepted book) (g : Game) (f : Fits book g) where
-  distinct : Distinct (listedIn g)
-  distinct = listed-distinct book g a f
-
   -- the ends told that pass a test are those of the listed routines that come to stage 3
   module _ (test : Happening → Bool) (only : (h : Happening) → endsRoutine h ≡ false → test h ≡ false) where
     -- a turn tells its routine's end if it brings it to stage 3
@@ -146,7 +142,7 @@ module _ (book : List ℕ) (a : Accepted book) (g : Game) (f : Fits book g) wher
         let u = turn book r s .state in
         let others : (q : ℕ) → q ≢ r → counted test u q ≡ counted test s q =
         λ q n. ap (λ k. one (test (ended q) && eqb k stage.ended)) (turn-turned book a r s l ok .standings .others q n .stage) in
-        own-sum (counted test s) (counted test u) r others _ (own-told r s l) (listedIn g) distinct inside
+        own-sum (counted test s) (counted test u) r others _ (own-told r s l) (listedIn g) (listed-distinct book g a f) inside
 
     -- at the start none of them is in stage 3
     round-told : howMany test (historyOf book g) ≡ total (back book g)
@@ -165,7 +161,7 @@ module _ (book : List ℕ) (a : Accepted book) (g : Game) (f : Fits book g) wher
     own-counted : howMany (endsOf r) (historyOf book g) ≡ one (isEnded (back book g) r)
     own-counted =
         round-told (endsOf r) (end-alone r) ∙
-        alone-sum (counted (endsOf r) (back book g)) r (λ q n. rw (ne-eqb q r n)) (listedIn g) distinct inside ∙
+        alone-sum (counted (endsOf r) (back book g)) r (λ q n. rw (ne-eqb q r n)) (listedIn g) (listed-distinct book g a f) inside ∙
         rw (eq-eqb r r refl)
 
     pub ended-as-told : (routineAt (back book g .game) r .stage ≡ stage.ended) ↔ Somewhere (λ h. h ≡ ended r) (historyOf book g)

@@ -15,7 +15,6 @@ use Rattle.round.specs.Rounds.{listedIn, historyOf}
 use Rattle.round.specs.Answers.{opMark, marksIn}
 use Rattle.round.specs.Demand.{isSignalStep, givesSignal}
 use Rattle.round.specs.Completed.{completes, theStep, isMarkStep, isAddition, CompletedOnce}
-use Rattle.round.proofs.Along.{Distinct}
 use Rattle.round.proofs.Starting.{listed-distinct, listed-below}
 use Rattle.round.proofs.Paying.{leftOf, turn-pays}
 use Rattle.round.proofs.PayingPasses.{round-pays}
@@ -25,9 +24,6 @@ use Rattle.round.proofs.OneStep.{one-of-distinct}
 use Rattle.round.proofs.Enough.{total-left}
 
 module _ (book : List ℕ) (a : Accepted book) (g : Game) (f : Fits book g) where
-  distinct : Distinct (listedIn g)
-  distinct = listed-distinct book g a f
-
   each-once : (set : ℕ → ℕ → Bool) → howMany (completes set) (historyOf book g) ≤ stepsIn book set (listedIn g)
   each-once set =
       let below = listed-below book g a f in
@@ -43,6 +39,7 @@ module _ (book : List ℕ) (a : Accepted book) (g : Game) (f : Fits book g) wher
   pub completed-once : CompletedOnce book g
   completed-once =
       let below = listed-below book g a f in
+      let distinct = listed-distinct book g a f in
       record {
         once = each-once;
         neverTwice = λ r p. omega (arith, each-once (theStep r p), one-of-distinct r p book (listedIn g) distinct);

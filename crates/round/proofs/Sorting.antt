@@ -34,10 +34,10 @@ use Rattle.round.specs.declared.Effect.the-variants.{Put}
 use Rattle.round.specs.State.{State, signal, end, number, numbersWith, numberAt}
 use Rattle.round.specs.Jumps.{sizeOf}
 use Rattle.round.specs.Ticks.{fresh, countAt, tickOf, tickAt, tick}
-use Rattle.round.specs.Demand.{isSignalOp, wait, waitFor, join, joinFor, read}
+use Rattle.round.specs.Demand.{wait, waitFor, join, joinFor, read}
 use Rattle.round.proofs.Forms.{opOf, step-op}
 use Rattle.round.proofs.Leads.{isHalt, nextBy, formAt, Leaves, leads, restOver}
-use Rattle.round.proofs.Acts.{InRange, NumbersRight, Sorted, SortedTick, isTelling}
+use Rattle.round.proofs.Acts.{InRange, NumbersRight, Sorted, SortedTick}
 use Rattle.round.proofs.Acts.{nothing, mark, put, add, give, giveNumber, start, stop, suspend, resume}
 use Rattle.round.proofs.Acts.{silent, marks, gives, givesNumber, ends, rests}
 use Rattle.round.proofs.Fields.{FieldsRight, fields-right}
@@ -73,11 +73,8 @@ module _ (counts : Counts) (r : ℕ) (steps : List ℕ) (x : Position) (s : Stat
   form-there e = view-seen counts steps (sizeOf steps) (x .place) (step-below counts steps (x .place) e) ∙ ap seen e
 
   -- the op of a step is its kind's, so the kind says whether it is a signal or a mark step
-  tells : {k : Kind} → There k → isTelling (opAt steps (x .place)) ≡ isTelling (opOf k)
-  tells e = ap isTelling (step-op counts steps (x .place) e)
-
-  signals : {k : Kind} → There k → isSignalOp (opAt steps (x .place)) ≡ isSignalOp (opOf k)
-  signals e = ap isSignalOp (step-op counts steps (x .place) e)
+  op-there : {k : Kind} → There k → opAt steps (x .place) ≡ opOf k
+  op-there e = step-op counts steps (x .place) e
 
   -- the edge from a form at which a turn goes on
   edge :
@@ -98,46 +95,46 @@ module _ (counts : Counts) (r : ℕ) (steps : List ℕ) (x : Position) (s : Stat
 
   kind-sorted : (k : Kind) → There k → FieldsRight counts k → SortedTick counts r steps x s (tickOf r steps x s k)
   unfolding tickOf
-  kind-sorted (kind.Mark n) e f = (behind (form-there e), mark, marks (step-op counts steps (x .place) e))
-  kind-sorted (kind.Set c n) e f = (behind (form-there e), put (f .0) (λ ranged. f .1), silent refl (tells e))
+  kind-sorted (kind.Mark n) e f = (behind (form-there e), mark, marks (op-there e))
+  kind-sorted (kind.Set c n) e f = (behind (form-there e), put (f .0) (λ ranged. f .1), silent refl (rw (op-there e)))
   kind-sorted (kind.Add c n) e f =
       let sum = adds-up (counterAt (s .game) c) n in
-      (behind (form-there e), add (f .0) (sum-in-range sum), silent refl (tells e))
+      (behind (form-there e), add (f .0) (sum-in-range sum), silent refl (rw (op-there e)))
   kind-sorted (kind.Take c d) e f =
       let sum = adds-up (counterAt (s .game) c) (counterAt (s .game) d) in
-      (behind (form-there e), add (f .0) (sum-in-range sum), silent refl (tells e))
-  kind-sorted (kind.Signal a) e f = (behind (form-there e), give f, gives (signals e))
+      (behind (form-there e), add (f .0) (sum-in-range sum), silent refl (rw (op-there e)))
+  kind-sorted (kind.Signal a) e f = (behind (form-there e), give f, gives (rw (op-there e)))
   kind-sorted (kind.SignalNumber a c) e f =
-      (behind (form-there e), giveNumber (f .0) (λ ranged. ranged .counters c), givesNumber (signals e))
+      (behind (form-there e), giveNumber (f .0) (λ ranged. ranged .counters c), givesNumber (rw (op-there e)))
   kind-sorted kind.Rest e f = (λ h. fresh-stands counts steps (x .place + 1) (omega (arith, step-below counts steps (x .place) e)), rests)
   kind-sorted (kind.RestFor n) e f =
       by-test (λ a. Sorted counts r steps x s a []) (eqb (countAt x n) 0)
-      (λ h. (rest-over n e (eqb-true (countAt x n) 0 h), nothing, silent refl (tells e)))
+      (λ h. (rest-over n e (eqb-true (countAt x n) 0 h), nothing, silent refl (rw (op-there e))))
       (λ h. (begun-stands counts steps x n (rw e timed.restFor) (some-left (countAt x n) h), rests))
-  kind-sorted (kind.Wait a) e f = waits-sorted counts r steps x s (behind (form-there e)) (tells e) (signal a) (rw e (wait, tt))
+  kind-sorted (kind.Wait a) e f = waits-sorted counts r steps x s (behind (form-there e)) (rw (op-there e)) (signal a) (rw e (wait, tt))
   kind-sorted (kind.WaitFor a n) e f =
-      waits-for-sorted counts r steps x s (behind (form-there e)) (tells e) (signal a) (countAt x n) (rw e waitFor)
+      waits-for-sorted counts r steps x s (behind (form-there e)) (rw (op-there e)) (signal a) (countAt x n) (rw e waitFor)
       (λ some. (rw e (waitFor, some), begun-stands counts steps x n (rw e timed.waitFor) some))
-  kind-sorted (kind.Join t) e f = waits-sorted counts r steps x s (behind (form-there e)) (tells e) (end t) (rw e (join, tt))
+  kind-sorted (kind.Join t) e f = waits-sorted counts r steps x s (behind (form-there e)) (rw (op-there e)) (end t) (rw e (join, tt))
   kind-sorted (kind.JoinFor t n) e f =
-      waits-for-sorted counts r steps x s (behind (form-there e)) (tells e) (end t) (countAt x n) (rw e joinFor)
+      waits-for-sorted counts r steps x s (behind (form-there e)) (rw (op-there e)) (end t) (countAt x n) (rw e joinFor)
       (λ some. (rw e (joinFor, some), begun-stands counts steps x n (rw e timed.joinFor) some))
   kind-sorted (kind.Read a c k) e f =
-      tries-sorted counts r steps x s (behind (form-there e)) (tells e) (number a k) (Put c (numberAt s a k)) (fresh (x .place + 1))
+      tries-sorted counts r steps x s (behind (form-there e)) (rw (op-there e)) (number a k) (Put c (numberAt s a k)) (fresh (x .place + 1))
       (rw e read) (put (f .1) (λ ranged. number-in-range a (s .numbers) (k - 1) (ranged .numbers))) refl
       (λ h. (rw e (read, tt), λ stood. fresh-stands counts steps (x .place + 1) (omega (arith, step-below counts steps (x .place) e))))
-  kind-sorted (kind.Start t) e f = (behind (form-there e), start f, silent refl (tells e))
-  kind-sorted (kind.Stop t) e f = (behind (form-there e), stop f, silent refl (tells e))
-  kind-sorted (kind.Suspend t) e f = (behind (form-there e), suspend f, silent refl (tells e))
-  kind-sorted (kind.Resume t) e f = (behind (form-there e), resume f, silent refl (tells e))
+  kind-sorted (kind.Start t) e f = (behind (form-there e), start f, silent refl (rw (op-there e)))
+  kind-sorted (kind.Stop t) e f = (behind (form-there e), stop f, silent refl (rw (op-there e)))
+  kind-sorted (kind.Suspend t) e f = (behind (form-there e), suspend f, silent refl (rw (op-there e)))
+  kind-sorted (kind.Resume t) e f = (behind (form-there e), resume f, silent refl (rw (op-there e)))
   kind-sorted (kind.If c relation n) e f =
       let test = eqb (relationOf relation (counterAt (s .game) c) n) 1 in
-      (edge (stands IfOpening) (form-there e) refl test, nothing, silent refl (tells e))
-  kind-sorted kind.Else e f = (edge (stands ElseMarker) (form-there e) refl true, nothing, silent refl (tells e))
+      (edge (stands IfOpening) (form-there e) refl test, nothing, silent refl (rw (op-there e)))
+  kind-sorted kind.Else e f = (edge (stands ElseMarker) (form-there e) refl true, nothing, silent refl (rw (op-there e)))
   kind-sorted (kind.While c relation n) e f =
       let test = eqb (relationOf relation (counterAt (s .game) c) n) 1 in
-      (edge (stands WhileOpening) (form-there e) refl test, nothing, silent refl (tells e))
-  kind-sorted kind.End e f = (edge (stands EndMarker) (form-there e) refl true, nothing, silent refl (tells e))
+      (edge (stands WhileOpening) (form-there e) refl test, nothing, silent refl (rw (op-there e)))
+  kind-sorted kind.End e f = (edge (stands EndMarker) (form-there e) refl true, nothing, silent refl (rw (op-there e)))
 
   step-sorted : (st : Step) → stepAt counts steps (x .place) ≡ st → SortedTick counts r steps x s (tickAt r steps x s st)
   step-sorted (step.Kind k) e = kind-sorted k e (fields-right counts steps (x .place) k e)

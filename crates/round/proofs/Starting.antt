@@ -27,7 +27,6 @@ use Rattle.round.proofs.Sound.{Sound}
 use Rattle.round.proofs.Entries.{entries-below, apart, joined-entries}
 use Rattle.round.proofs.Actions.{each-length, each-other, each-given, startsOf, joinedOf, first, stops, stays, leaving, staying}
 use Rattle.round.proofs.Actions.{halted, last, at-start-routines, at-start-positions, kept-below, staying-short, at-start-entries}
-use Rattle.round.proofs.Actions.{at-start-listed}
 use Rattle.round.proofs.Listing.{among-or, distinct-joined, among-kept, distinct-kept}
 use Rattle.round.proofs.Listing.{in-among, among-in, entries-distinct, appended-sized, appended-right}
 use Rattle.round.specs.History.{Among}
@@ -155,7 +154,7 @@ module _ (book : List ℕ) (g : Game) (a : Accepted book) (f : Fits book g) wher
       entries-distinct (atStart g .game .listed) (listed-right book g range f) (at-start-sized book g range f .listed)
 
   pub listed-below : All (λ r. r < routinesOf book) (entriesOf (atStart g .game .listed))
-  listed-below = at-start-listed book g range f
+  listed-below = rw (at-start-entries book g range f) (kept-below book g range f (stays g))
 
   -- in the playing order, and among its entries
   pub listed-among : (r : ℕ) → In (atStart g .game .listed) r → Among r (entriesOf (atStart g .game .listed))
