@@ -486,7 +486,7 @@ played cs =
 """
 
 UNFOLDING = """\
-unfolding playedFrom numbersBelow routineLines markLines obeyed written marksIn countBelow stepsIn howMany instantBy passBy allDone
+unfolding playedFrom numbersBelow routineLines markLines obeyed written marksIn sumBelow sumOver howMany instantBy passBy allDone
     ticksBy effectOn tickOf waitsFor fromEnd openingBefore pastPartner atStart each kept appended isThere isEndThere numbersWith newGame
     blankGame withStart isSized fitsBook routineFits slotFits entryFits lineFits countersFit signalsFit isIn allBelow anyBelow layoutVerdict
     directoryVerdict routinePart routineOf stepOf blockBy partnerOf firstSteps stepAt decoded rowOf stepsBefore firstRefusal
@@ -519,7 +519,7 @@ use Rattle.round.specs.Actions.{kept, each, atStart}
 use Rattle.round.specs.Jumps.{pastPartner, openingBefore, fromEnd}
 use Rattle.round.specs.Ticks.{waitsFor, tickOf, effectOn}
 use Rattle.round.specs.Rounds.{allDone}
-use Rattle.round.specs.History.{countBelow, stepsIn, howMany}
+use Rattle.round.specs.History.{sumBelow, sumOver, howMany}
 use Rattle.round.specs.Answers.{marksIn, written}
 use Rattle.round.specs.Evaluation.{firstSteps, book-verdict, ticksBy, passBy, instantBy}
 use Rattle.round.specs.Script.{Command, Book, Read, Show, SetUp, Order, Round, Poke, PokeCounter, Log, Facts, Dump, Lines}

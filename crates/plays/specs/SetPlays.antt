@@ -23,7 +23,7 @@ use Rattle.fit_routines.specs.Routines.{routineFits, slotFits}
 use Rattle.fitting.specs.Fitting.{isSized, fitsBook}
 use Rattle.setup.specs.SetUp.{newGame, setUp}
 use Rattle.round.specs.State.{numbersWith, isEndThere, isThere}
-use Rattle.round.specs.History.{countBelow}
+use Rattle.round.specs.History.{sumBelow}
 use Rattle.round.specs.Actions.{kept, each, placed, atStart}
 use Rattle.round.specs.Jumps.{pastPartner, openingBefore, fromEnd}
 use Rattle.round.specs.Ticks.{fresh, waitsFor, tickOf, tick, effectOn}
@@ -363,7 +363,7 @@ waitsOn = record { verdict = accepted; game = waiting; passes = 2; marks = 0; bu
 
 pub as-stated :
     (map played setPlays ≡ setPlays) × (afterRounds 4 (t10 .book) ≡ waiting) × (nextRound (t10 .book) waiting ≡ waitsOn)
-unfolding playedFrom answer roundVerdict written marksIn countBelow round instant pass turn allDone ticks effectOn tick tickOf waitsFor
+unfolding playedFrom answer roundVerdict written marksIn sumBelow round instant pass turn allDone ticks effectOn tick tickOf waitsFor
     fromEnd openingBefore pastPartner atStart each kept appended isThere isEndThere numbersWith setUp newGame blankGame withStart
     isSized fitsBook routineFits slotFits entryFits lineFits countersFit signalsFit isIn allBelow anyBelow bookVerdict layoutVerdict
     directoryVerdict stepsVerdict nestingVerdict pausingVerdict routineWalk routinePart routineOf stepOf blockBy partnerOf viewAt

@@ -15,7 +15,7 @@ use Rattle.blocks.specs.Parse.{ParsedBlock, WhilesPause}
 use Rattle.blocks.proofs.Views.{standing-below}
 use Rattle.round.specs.Jumps.{sizeOf}
 use Rattle.round.specs.History.{countBelow}
-use Rattle.round.proofs.Counting.{one, count-le, count-drops}
+use Rattle.round.proofs.Counting.{below-le, one, one-le, count-drops}
 use Rattle.round.proofs.Leads.{isHalt, formAt, Leads}
 use Rattle.round.proofs.Falls.{rank, falls, going-below}
 
@@ -37,7 +37,7 @@ module _ (counts : Counts) (steps : List ℕ) where
 
     pub ahead-all : (P : ℕ → Bool) (p : ℕ) → ahead P p ≤ countBelow P (sizeOf steps)
     unfolding ahead
-    ahead-all P p = count-le (λ z. P z && isAhead p z) P (of-set P p) (sizeOf steps)
+    ahead-all P p = below-le _ _ (λ z. one-le (P z && isAhead p z) (P z) (of-set P p z)) (sizeOf steps)
 
     pub ahead-falls : (P : ℕ → Bool) (p q : ℕ) → Leads counts steps p q → ahead P q + one (P p) ≤ ahead P p
     unfolding ahead

@@ -3,7 +3,7 @@
 use Prim.Native.Nat.{ℕ, zero, suc, _+_, _<_, _≤_}
 use mathlib.Core.Path.{_≡_, refl, _∙_, ap}
 use mathlib.Core.Bool.{Bool}
-use mathlib.Core.List.{List, [], _∷_}
+use mathlib.Core.List.{List}
 use native.Mathlib.Nat.{add-zero}
 use native.Mathlib.Omega.{arith}
 use Rattle.kinds.specs.Steps.{opAt}
@@ -12,10 +12,10 @@ use Rattle.directory.specs.Directory.{firstStep, stepCount, stepsBefore, routin
 use Rattle.book.specs.Book.{stepsPart}
 use Rattle.book.specs.Accepted.{Accepted}
 use Rattle.book.proofs.Parts.{same-taken, same-routine}
-use Rattle.round.specs.History.{countBelow, stepsIn}
+use Rattle.round.specs.History.{sumBelow, countBelow, stepsIn}
 use Rattle.round.proofs.Along.{All, Distinct}
-use Rattle.round.proofs.Counting.{count-all, count-same, count-sum}
-use Rattle.round.proofs.Sums.{sumOver, sumBelow, over-below, below-le}
+use Rattle.round.proofs.Counting.{below-same, below-cut, one, count-all}
+use Rattle.round.proofs.Sums.{over-le, over-below}
 
 -- a step of a routine is the step at its place in the book
 routine-op :
@@ -25,23 +25,10 @@ routine-op book r p l =
     let whole = same-routine book r p .bytes 0 (omega arith) in
     simp add-zero at (part ∙ whole)
 
-module _ (book : List ℕ) where
-  pub steps-sum :
-      (set : ℕ → ℕ → Bool) (L : List ℕ) → stepsIn book set L ≡ sumOver (λ r. countBelow (set r) (stepCount book r)) L
-  unfolding stepsIn sumOver
-  steps-sum set [] = refl
-  steps-sum set (r ∷ rs) = rw (steps-sum set rs)
-
-  -- distinct routines have at most what all have
-  steps-below :
-      (set : ℕ → ℕ → Bool) (L : List ℕ) → Distinct L → All (λ r. r < routinesOf book) L →
-      stepsIn book set L ≤ sumBelow (λ r. countBelow (set r) (stepCount book r)) (routinesOf book)
-  steps-below set L d all = rw steps-sum (over-below _ (routinesOf book) L d all)
-
-  counts-below : (n : ℕ) → sumBelow (λ r. stepCount book r) n ≡ stepsBefore book n
-  unfolding sumBelow stepsBefore
-  counts-below zero = refl
-  counts-below (suc n) = rw (counts-below n)
+counts-below : (book : List ℕ) (n : ℕ) → sumBelow (λ r. stepCount book r) n ≡ stepsBefore book n
+unfolding sumBelow stepsBefore
+counts-below book zero = refl
+counts-below book (suc n) = rw (counts-below book n)
 
 module _ (book : List ℕ) (a : Accepted book) where
   module _ (test : ℕ → Bool) where
@@ -55,32 +42,32 @@ module _ (book : List ℕ) (a : Accepted book) where
         (r : ℕ) → r < routinesOf book →
         countBelow (inRoutine r) (stepCount book r) ≡ countBelow (λ p. inBook (stepsBefore book r + p)) (stepCount book r)
     own-count r l =
-        count-same _ _ (stepCount book r) (λ p h. ap test (rw (a .directed .entries r l) at (routine-op book r p h)))
+        below-same _ _ (stepCount book r) (λ p h. ap (λ op. one (test op)) (rw (a .directed .entries r l) at (routine-op book r p h)))
 
     -- the first n routines are the first steps of the book
     first-routines :
         (n : ℕ) → n ≤ routinesOf book →
         sumBelow (λ r. countBelow (inRoutine r) (stepCount book r)) n ≡ countBelow inBook (stepsBefore book n)
-    unfolding sumBelow stepsBefore countBelow
+    unfolding sumBelow stepsBefore
     first-routines zero l = refl
     first-routines (suc r) l =
         let before = first-routines r (omega arith) in
-        omega (arith, own-count r l, count-sum inBook (stepsBefore book r) (stepCount book r))
+        omega (arith, own-count r l, below-cut (λ i. one (inBook i)) (stepsBefore book r) (stepCount book r))
 
     pub steps-in-book :
         (L : List ℕ) → Distinct L → All (λ r. r < routinesOf book) L →
         stepsIn book (λ r p. test (opAt (routineSteps book r) p)) L ≤ countBelow (λ i. test (opAt (stepsPart book) i)) (stepsOf book)
     steps-in-book L d all =
-        rw (← a .directed .total) (
-        omega (arith, steps-below book inRoutine L d all, first-routines (routinesOf book) (omega arith)))
+        let whole = over-below (λ r. countBelow (inRoutine r) (stepCount book r)) (routinesOf book) L d all in
+        rw (← a .directed .total) (omega (arith, first-routines (routinesOf book) (omega arith)))
 
   pub few-steps :
       (set : ℕ → ℕ → Bool) (L : List ℕ) → Distinct L → All (λ r. r < routinesOf book) L → stepsIn book set L ≤ mostSteps
   few-steps set L d all =
       omega (
         arith,
-        steps-below book set L d all,
-        below-le _ (λ r. stepCount book r) (λ r. count-all (set r) (stepCount book r)) (routinesOf book),
+        over-le _ (λ r. stepCount book r) L (λ r h. count-all (set r) (stepCount book r)),
+        over-below (λ r. stepCount book r) (routinesOf book) L d all,
         counts-below book (routinesOf book),
         a .directed .total,
         a .laid .counts .fewSteps,

@@ -23,13 +23,13 @@ use Rattle.fitting.specs.Fits.{Fits}
 use Rattle.round.specs.declared.Ending.{Ending}
 use Rattle.round.specs.declared.Position.{Position}
 use Rattle.round.specs.State.{State, Happening, gave, ended, missing, past, marked, completed}
-use Rattle.round.specs.History.{howMany, Somewhere, Among}
+use Rattle.round.specs.History.{sumOver, howMany, Somewhere, Among}
 use Rattle.round.specs.Actions.{kept, atStart}
 use Rattle.round.specs.Rounds.{stageAfter, listedIn, ticksOf, turn, historyOf}
 use Rattle.round.specs.Demand.{endsRoutine}
 use Rattle.round.proofs.Acts.{Stops, ends, rests, misses, continues}
 use Rattle.round.proofs.Counting.{one}
-use Rattle.round.proofs.Sums.{sumOver, own-sum, none-sum, alone-sum, kept-sum}
+use Rattle.round.proofs.Sums.{own-sum, none-sum, alone-sum, kept-sum}
 use Rattle.round.proofs.Histories.{none-of-all, many-append, none-told}
 use Rattle.round.proofs.After.{back, round-along}
 use Rattle.round.proofs.Sound.{Sound}

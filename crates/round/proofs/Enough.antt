@@ -36,7 +36,7 @@ use Rattle.round.proofs.Lasting.{routine-in-time, left-most}
 use Rattle.round.proofs.Paying.{worth, leftOf, turn-pays, mayEnd, ends-pay}
 use Rattle.round.proofs.PayingPasses.{total, pass-pays}
 use Rattle.round.proofs.Accounts.{turn-signals}
-use Rattle.round.proofs.BookSteps.{steps-sum, few-steps}
+use Rattle.round.proofs.BookSteps.{few-steps}
 use Rattle.round.proofs.Passes.{round-ends}
 use Rattle.round.proofs.Lawful.{turn-laws}
 
@@ -80,10 +80,9 @@ module _ (book : List ℕ) (a : Accepted book) where
       (set : ℕ → ℕ → Bool) (L : List ℕ) → All (λ r. r < routinesOf book) L → (s : State) →
       total (leftOf book a set) L s ≤ stepsIn book set L
   total-left set L all s =
-      rw steps-sum
-      (over-le _ _ L (λ r h.
+      over-le _ _ L (λ r h.
       by-test (λ (n : ℕ). n ≤ countBelow (set r) (stepCount book r)) (isGoing s r)
-      (λ g. left-most book a set r (among-all (λ q. q < routinesOf book) r L all h) _) (λ g. omega arith)))
+      (λ g. left-most book a set r (among-all (λ q. q < routinesOf book) r L all h) _) (λ g. omega arith))
 
   -- what the signals and the ends of a round pay from
   abbrev signals : ℕ → Position → ℕ

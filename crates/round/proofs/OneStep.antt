@@ -10,21 +10,20 @@ use native.Mathlib.Omega.{arith}
 use borrow.Author.Tests.{eq-eqb, ne-eqb}
 use lib.Dec.{eqb}
 use Rattle.directory.specs.Directory.{stepCount}
-use Rattle.round.specs.History.{countBelow, stepsIn}
+use Rattle.round.specs.History.{sumBelow, countBelow, stepsIn}
 use Rattle.round.specs.Completed.{theStep}
 use Rattle.round.proofs.Along.{Distinct}
-use Rattle.round.proofs.Counting.{count-same}
+use Rattle.round.proofs.Counting.{below-same, one}
 use Rattle.round.proofs.Sums.{alone-le}
-use Rattle.round.proofs.BookSteps.{steps-sum}
 
 count-none : (P : ℕ → Bool) (n : ℕ) → ((i : ℕ) → i < n → P i ≡ false) → countBelow P n ≡ 0
-unfolding countBelow
+unfolding sumBelow
 count-none P zero none = refl
 count-none P (suc n) none = rw (none n (omega arith)) (omega (arith, count-none P n (λ i l. none i (omega arith))))
 
 -- one place at most is p
 count-one : (p n : ℕ) → countBelow (λ i. eqb i p) n ≤ 1
-unfolding countBelow
+unfolding sumBelow
 count-one p zero = omega arith
 count-one p (suc n) =
     elim (ℕ-discrete n p) [
@@ -41,5 +40,5 @@ module _ (r p : ℕ) where
   pub one-of-distinct : (book L : List ℕ) → Distinct L → stepsIn book (theStep r p) L ≤ 1
   one-of-distinct book L d =
       let all = alone-le (λ q. countBelow (theStep r p q) (stepCount book q)) r (λ q n. not-own q n (stepCount book q)) L d in
-      let own = count-same (theStep r p r) (λ o. eqb o p) (stepCount book r) (λ o l. rw (eq-eqb r r refl)) in
-      rw steps-sum (omega (arith, count-one p (stepCount book r)))
+      let own = below-same (λ o. one (theStep r p r o)) (λ o. one (eqb o p)) (stepCount book r) (λ o l. rw (eq-eqb r r refl)) in
+      omega (arith, count-one p (stepCount book r))

@@ -13,10 +13,10 @@ use Rattle.game.specs.declared.Game.{Game}
 use Rattle.fitting.specs.Fits.{Fits}
 use Rattle.round.specs.declared.Position.{Position}
 use Rattle.round.specs.State.{State, Happening}
-use Rattle.round.specs.History.{howMany, Among}
+use Rattle.round.specs.History.{sumOver, howMany, Among}
 use Rattle.round.specs.Actions.{atStart}
 use Rattle.round.specs.Rounds.{listedIn, turn, pass, round, historyOf}
-use Rattle.round.proofs.Sums.{sumOver, over-le}
+use Rattle.round.proofs.Sums.{over-le}
 use Rattle.round.proofs.Histories.{many-append}
 use Rattle.round.proofs.Along.{All, all-among, pass-along}
 use Rattle.round.proofs.Sound.{Sound}

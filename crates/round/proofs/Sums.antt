@@ -1,27 +1,18 @@
--- Laws of sums: over some numbers, over different ones of which one alone counts, or counts otherwise, and over all numbers below a bound.
--- By induction on the numbers; different numbers below a bound are together at most all of them, by taking one out of both sums at a time.
-use Prim.Native.Nat.{ℕ, zero, suc, _+_, _<_, _≤_}
+-- Laws of sums over some numbers, and over different ones of which one alone counts, or counts otherwise. By induction on the numbers;
+-- different numbers below a bound are together at most all of them, by taking one out of both sums at a time.
+use Prim.Native.Nat.{ℕ, _+_, _<_, _≤_}
 use mathlib.Core.Path.{_≡_, refl, sym}
 use mathlib.Core.Bool.{Bool}
 use mathlib.Core.List.{List, [], _∷_}
 use mathlib.Core.Logic.{inl, inr, ⊎-elim, _≢_}
-use native.Mathlib.Decide.{ℕ-discrete}
 use native.Mathlib.Omega.{arith}
-use borrow.Author.Tests.{eq-eqb, ne-eqb}
-use lib.Dec.{eqb}
 use lib.ListN.{length}
-use Rattle.numbers.specs.Choice.{if_then_else_}
 use Rattle.numbers.proofs.Tests.{by-test}
-use Rattle.round.specs.History.{Among}
+use Rattle.round.specs.History.{sumBelow, sumOver, Among}
 use Rattle.round.specs.Actions.{kept}
-use Rattle.round.proofs.Counting.{one}
+use Rattle.round.proofs.Counting.{without, without-other, below-without, one}
 use Rattle.round.proofs.Along.{All, Distinct}
 use Rattle.round.proofs.Listing.{among-or}
-
--- a sum over some numbers
-unfoldable pub sumOver : (ℕ → ℕ) → List ℕ → ℕ
-sumOver f [] = 0
-sumOver f (r ∷ rs) = f r + sumOver f rs
 
 pub over-le : (f g : ℕ → ℕ) (rs : List ℕ) → ((r : ℕ) → Among r rs → f r ≤ g r) → sumOver f rs ≤ sumOver g rs
 unfolding sumOver
@@ -68,36 +59,6 @@ kept-sum test (r ∷ rs) =
     by-test (λ (l : List ℕ). length l ≡ one (test r) + sumOver (λ q. one (test q)) rs) (test r) (λ h. rw h (omega arith))
     (λ h. rw h (omega arith))
 
--- a sum over all below n
-unfoldable pub sumBelow : (ℕ → ℕ) → ℕ → ℕ
-sumBelow f zero = 0
-sumBelow f (suc n) = sumBelow f n + f n
-
--- the summands but that of r
-abbrev without : ℕ → (ℕ → ℕ) → ℕ → ℕ
-without r f q = if eqb q r then 0 else f q
-
-module _ (r : ℕ) (f : ℕ → ℕ) where
-  without-own : without r f r ≡ 0
-  without-own = rw (eq-eqb r r refl)
-
-  without-other : (q : ℕ) → q ≢ r → without r f q ≡ f q
-  without-other q n = rw (ne-eqb q r n)
-
-  below-beyond : (n : ℕ) → n ≤ r → sumBelow (without r f) n ≡ sumBelow f n
-  unfolding sumBelow
-  below-beyond zero l = refl
-  below-beyond (suc n) l = omega (arith, without-other n (λ e. omega arith), below-beyond n (omega arith))
-
-  below-without : (n : ℕ) → r < n → sumBelow (without r f) n + f r ≡ sumBelow f n
-  unfolding sumBelow
-  below-without zero l = absurd (omega arith)
-  below-without (suc n) l =
-      elim (ℕ-discrete n r) [
-        | yes e ↦ rw e (omega (arith, without-own, below-beyond r (omega arith)))
-        | no d ↦ omega (arith, without-other n d, below-without n (omega arith))
-      ]
-
 -- distinct numbers below n: taking one out of both sums, by induction on them
 pub over-below : (f : ℕ → ℕ) (n : ℕ) (rs : List ℕ) → Distinct rs → All (λ r. r < n) rs → sumOver f rs ≤ sumBelow f n
 unfolding sumOver
@@ -109,8 +70,3 @@ over-below f n (r ∷ rs) d all =
       below-without r f n (all .0),
       over-below (without r f) n rs (d .1) (all .1),
     )
-
-pub below-le : (f g : ℕ → ℕ) → ((r : ℕ) → f r ≤ g r) → (n : ℕ) → sumBelow f n ≤ sumBelow g n
-unfolding sumBelow
-below-le f g h zero = omega arith
-below-le f g h (suc n) = omega (arith, h n, below-le f g h n)

@@ -23,7 +23,7 @@ use Rattle.fitting.specs.Fitting.{isSized, fitsBook}
 use Rattle.setup.specs.SetUp.{newGame}
 use Rattle.round.specs.declared.Ending.the-variants.{Ended, Continued}
 use Rattle.round.specs.State.{signal, Happening, gave, ended, missing, past, marked, completed, numbersWith, isEndThere, isThere}
-use Rattle.round.specs.History.{countBelow}
+use Rattle.round.specs.History.{sumBelow}
 use Rattle.round.specs.Actions.{kept, each, atStart}
 use Rattle.round.specs.Jumps.{pastPartner, openingBefore, fromEnd}
 use Rattle.round.specs.Ticks.{waitsFor, tickOf, tick, effectOn}
@@ -103,7 +103,7 @@ pub as-told :
     × (routineAt (answer restsInBoth (first restsInBoth) [] .game) 0 .place ≡ 2)
     × (stepsOn .ending ≡ Continued)
     × (length (stepsOn .told) ≡ mostTicks (routineSteps restsInOne 0))
-unfolding answer roundVerdict written marksIn countBelow round instant pass turn allDone ticks effectOn tick tickOf waitsFor fromEnd
+unfolding answer roundVerdict written marksIn sumBelow round instant pass turn allDone ticks effectOn tick tickOf waitsFor fromEnd
     openingBefore pastPartner atStart each kept appended isThere isEndThere numbersWith newGame blankGame withStart isSized fitsBook routineFits
     slotFits entryFits lineFits countersFit signalsFit isIn allBelow anyBelow bookVerdict layoutVerdict directoryVerdict stepsVerdict
     nestingVerdict pausingVerdict routineWalk routinePart routineOf stepOf blockBy partnerOf viewAt stepAt decoded rowOf stepsBefore

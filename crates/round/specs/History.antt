@@ -7,15 +7,22 @@ use mathlib.Core.Logic.{_⊎_}
 use Rattle.numbers.specs.Choice.{if_then_else_}
 use Rattle.directory.specs.Directory.{stepCount}
 
+-- a sum over all numbers below n, and one over those of a list
+unfoldable pub sumBelow : (ℕ → ℕ) → ℕ → ℕ
+sumBelow f zero = 0
+sumBelow f (suc n) = sumBelow f n + f n
+
+unfoldable pub sumOver : (ℕ → ℕ) → List ℕ → ℕ
+sumOver f [] = 0
+sumOver f (r ∷ rs) = f r + sumOver f rs
+
 -- how many of the first n places pass a test
-unfoldable pub countBelow : (ℕ → Bool) → ℕ → ℕ
-countBelow test zero = 0
-countBelow test (suc n) = countBelow test n + (if test n then 1 else 0)
+abbrev pub countBelow : (ℕ → Bool) → ℕ → ℕ
+countBelow test n = sumBelow (λ p. if test p then 1 else 0) n
 
 -- how many steps of some routines of a book are in a set of steps, each a routine and a place
-unfoldable pub stepsIn : List ℕ → (ℕ → ℕ → Bool) → List ℕ → ℕ
-stepsIn book set [] = 0
-stepsIn book set (r ∷ rs) = countBelow (set r) (stepCount book r) + stepsIn book set rs
+abbrev pub stepsIn : List ℕ → (ℕ → ℕ → Bool) → List ℕ → ℕ
+stepsIn book set rs = sumOver (λ r. countBelow (set r) (stepCount book r)) rs
 
 -- how many items of a list pass a test
 unfoldable pub howMany : {A : Type 0} → (A → Bool) → List A → ℕ
