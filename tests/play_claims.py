@@ -506,7 +506,7 @@ use Rattle.verdicts.specs.Verdicts.{refused, firstRefusal}
 use Rattle.layout.specs.Layout.{layoutVerdict}
 use Rattle.directory.specs.Directory.{stepsBefore, directoryVerdict, routinePart}
 use Rattle.book.specs.Book.{bookVerdict}
-use Rattle.lines.specs.Below.{allBelow, anyBelow}
+use Rattle.numbers.specs.Below.{allBelow, anyBelow}
 use Rattle.lines.specs.Lines.{isIn, appended}
 use Rattle.game.specs.Game.{blankGame, withStart}
 use Rattle.fit_arrays.specs.Arrays.{entryFits, lineFits, countersFit, signalsFit}

@@ -10,7 +10,7 @@ use Rattle.numbers.specs.Choice.{if_then_else_}
 use Rattle.numbers.specs.Numbers.{lowestCounter, highestCounter, isWithin}
 use Rattle.layout.specs.Layout.{mostSignals, mostCounters}
 use Rattle.lines.specs.declared.Line.{Line}
-use Rattle.lines.specs.Below.{allBelow}
+use Rattle.numbers.specs.Below.{allBelow}
 use Rattle.lines.specs.Lines.{mostEntries, itemAt, isIn}
 
 -- the entries of a list before entry i

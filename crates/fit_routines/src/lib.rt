@@ -16,7 +16,7 @@ use lines::is_in;
 ghost use mathlib.Core.Path.{_≡_};
 ghost use Prim.Native.Nat.{_<_};
 ghost use Rattle.layout.specs.Layout.{mostRoutines};
-ghost use Rattle.lines.specs.Below.{allBelow};
+ghost use Rattle.numbers.specs.Below.{allBelow};
 ghost use Rattle.fit_routines.specs.Routines.{isBlank, stageFits, startFits, leftFits, routineFits, slotFits};
 
 // Whether the fields of a routine are all 0.

@@ -8,7 +8,7 @@ use lib.ListN.{length}
 use Rattle.kinds.specs.declared.Counts.{Counts}
 use Rattle.layout.specs.Layout.{mostRoutines, mostSignals, mostCounters, countsOf}
 use Rattle.game.specs.declared.Game.{Game}
-use Rattle.lines.specs.Below.{allBelow}
+use Rattle.numbers.specs.Below.{allBelow}
 use Rattle.lines.specs.Lines.{mostEntries}
 use Rattle.fit_arrays.specs.Arrays.{lineFits, countersFit, signalsFit}
 use Rattle.fit_routines.specs.Routines.{slotFits}

@@ -1,10 +1,11 @@
 -- The bytes that words of hexadecimal digits stand for.
 use Prim.Native.Nat.{ℕ, zero, suc, _+_, _*_, _/_, _%_}
-use mathlib.Core.Bool.{Bool, true, _&&_}
+use mathlib.Core.Bool.{Bool, _&&_}
 use mathlib.Core.List.{List, [], _∷_}
 use lib.Dec.{eqb, ltb, leb}
 use lib.ListN.{length, getD, set}
 use Rattle.numbers.specs.Choice.{if_then_else_}
+use Rattle.numbers.specs.Below.{allBelow}
 use Rattle.words.specs.Words.{isSame}
 use Rattle.digits.specs.Digits.{minus, digitOf}
 use Rattle.hex.specs.declared.Bytes.{Bytes}
@@ -14,15 +15,12 @@ use Rattle.hex.specs.declared.Bytes.the-variants as bytes
 abbrev pub longest : ℕ
 longest = 16384
 
--- n bytes from place i on are hexadecimal digits
-unfoldable pub hexFrom : List ℕ → ℕ → ℕ → Bool
-hexFrom word zero i = true
-hexFrom word (suc n) i = leb (digitOf (getD word i 0)) 15 && hexFrom word n (i + 1)
+abbrev pub digitAt : List ℕ → ℕ → Bool
+digitAt word i = leb (digitOf (getD word i 0)) 15
 
 -- a word stands for bytes, two digits each
 unfoldable pub isHex : List ℕ → Bool
-isHex word =
-    ltb 0 (length word) && eqb (length word % 2) 0 && leb (length word / 2) longest && hexFrom word (length word) 0
+isHex word = ltb 0 (length word) && eqb (length word % 2) 0 && leb (length word / 2) longest && allBelow (length word) (digitAt word)
 
 -- byte i of those that a word stands for
 abbrev pub byteOf : List ℕ → ℕ → ℕ

@@ -6,7 +6,7 @@ use mathlib.Core.Path.{_≡_, refl, sym, ap, _∙_, subst}
 use mathlib.Core.Bool.{Bool, true, false}
 use mathlib.Core.List.{List, [], _∷_}
 use mathlib.Core.Logic.{_⊎_, inl, inr}
-use native.Mathlib.Nat.{add-zero, add-suc, zero-add, suc-add}
+use native.Mathlib.Nat.{add-zero, add-suc, zero-add, suc-add, add-sub-cancel}
 use native.Mathlib.Numerals.{add-one}
 use native.Mathlib.Omega.{arith}
 use lib.Dec.{eqb}
@@ -15,6 +15,7 @@ use lib.ListN.{getD}
 use borrow.Author.Tests.{ne-eqb}
 use Rattle.numbers.specs.Choice.{if_then_else_}
 use Rattle.numbers.specs.Numbers.{countOf}
+use Rattle.numbers.proofs.Left.{more-left}
 use Rattle.kinds.specs.declared.Kind.{Kind}
 use Rattle.kinds.specs.declared.Kind.the-variants.{Else}
 use Rattle.kinds.specs.declared.Step.{Step}
@@ -122,17 +123,14 @@ module _ (counts : Counts) (s : List ℕ) (n : ℕ) where
   found-look : (d p : ℕ) {f : Form} → at p ≡ stands f → found d p ≡ lookAt f (λ c. found c (suc p)) d p
   unfolding partnerOf
   found-look d p h =
-      let left : n - p ≡ suc (n - suc p) = omega (arith, standing-below counts s n p h) in
-      rw (left, add-one p) (step-look (λ c. found c (suc p)) d p counts s p (seen-there p h))
+      rw (more-left (standing-below counts s n p h), add-one p) (step-look (λ c. found c (suc p)) d p counts s p (seen-there p h))
 
   -- within an inner pair an else is passed over, and an end closes the pair
   past-else : (d p : ℕ) → at p ≡ stands ElseMarker → found (d + 1) p ≡ found (d + 1) (suc p)
   past-else d p h = found-look (d + 1) p h ∙ rw (ne-eqb (d + 1) 0 (λ e. omega arith))
 
   past-end : (d p : ℕ) → at p ≡ stands EndMarker → found (d + 1) p ≡ found d (suc p)
-  past-end d p h =
-      let k : d + 1 - 1 ≡ d = omega arith in
-      found-look (d + 1) p h ∙ rw (ne-eqb (d + 1) 0 (λ e. omega arith), k)
+  past-end d p h = found-look (d + 1) p h ∙ rw (ne-eqb (d + 1) 0 (λ e. omega arith), add-sub-cancel d 1)
 
   -- the search passes over whole blocks, and over a step with its blocks
   mutual

@@ -14,7 +14,7 @@ use Rattle.directory.specs.Directory.{stepsBefore, directoryVerdict, routineSte
 use Rattle.book.specs.Book.{stepsVerdict, routineWalk, nestingVerdict, pausingVerdict, bookVerdict}
 use Rattle.book.specs.Examples.{step, joined, book, rest, t3}
 use Rattle.game.specs.declared.Game.{Game}
-use Rattle.lines.specs.Below.{allBelow, anyBelow}
+use Rattle.numbers.specs.Below.{allBelow, anyBelow}
 use Rattle.lines.specs.Lines.{isIn, appended}
 use Rattle.game.specs.Game.{routineAt, blankGame, withStart}
 use Rattle.fit_arrays.specs.Arrays.{entryFits, lineFits, countersFit, signalsFit}

@@ -2,9 +2,11 @@
 -- By the number of places, after the laws of one answer or else another, which are by cases on whether the first accepts.
 use Prim.Native.Nat.{ℕ, zero, suc, _+_, _-_, _≤_, _<_}
 use mathlib.Core.Path.{_≡_, refl, _∙_, ap}
+use native.Mathlib.Nat.{sub-zero, sub-eq-zero-of-le}
 use native.Mathlib.Omega.{arith}
 use native.Mathlib.Decide.{ℕ-discrete}
 use borrow.Author.Tests.{eq-eqb, ne-eqb}
+use Rattle.numbers.proofs.Left.{more-left}
 use Rattle.verdicts.specs.declared.Verdict.{Verdict}
 use Rattle.verdicts.specs.Verdicts.{accepted, refused, _orElse_, firstRefusal}
 
@@ -107,21 +109,21 @@ module _ {at : ℕ → Verdict} {n : ℕ} {Good : ℕ → Type 0} (tests : Decid
 
 -- one turn of a loop over n places: at place i the search begins, stops, goes on, or has come to its end
 pub first-begins : (at : ℕ → Verdict) (n : ℕ) → firstRefusal at (n - 0) 0 ≡ firstRefusal at n 0
-first-begins at n = let all : n - 0 ≡ n = omega arith in rw all
+first-begins at n = rw (sub-zero n)
 
 module _ (at : ℕ → Verdict) (n i : ℕ) where
   pub first-stops : i < n → (at i .number ≡ 0 → ⊥) → firstRefusal at (n - i) i ≡ at i
   unfolding firstRefusal
-  first-stops h r = let one : n - i ≡ suc (n - (i + 1)) = omega arith in rw (one, ne-eqb _ _ r)
+  first-stops h r = rw (more-left h, ne-eqb _ _ r)
 
   pub first-goes : i < n → at i .number ≡ 0 → firstRefusal at (n - i) i ≡ firstRefusal at (n - (i + 1)) (i + 1)
   unfolding firstRefusal
-  first-goes h r = let one : n - i ≡ suc (n - (i + 1)) = omega arith in rw (one, eq-eqb _ _ r)
+  first-goes h r = rw (more-left h, eq-eqb _ _ r)
 
   pub first-next : i < n → firstRefusal at (n - i) i ≡ (at i orElse firstRefusal at (n - (i + 1)) (i + 1))
   unfolding firstRefusal
-  first-next h = let one : n - i ≡ suc (n - (i + 1)) = omega arith in rw one
+  first-next h = rw (more-left h)
 
   pub first-ends : n ≤ i → firstRefusal at (n - i) i ≡ accepted
   unfolding firstRefusal
-  first-ends h = let none : n - i ≡ 0 = omega arith in rw none
+  first-ends h = rw (sub-eq-zero-of-le h)

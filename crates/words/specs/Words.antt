@@ -1,10 +1,11 @@
 -- The words of a line of text.
 use Prim.Native.Nat.{ℕ, zero, suc, _+_, _-_}
-use mathlib.Core.Bool.{Bool, true, _&&_}
+use mathlib.Core.Bool.{Bool, _&&_}
 use mathlib.Core.List.{List}
 use lib.Dec.{eqb, ltb}
 use lib.ListN.{length, getD, take, drop}
 use Rattle.numbers.specs.Choice.{if_then_else_}
+use Rattle.numbers.specs.Below.{allBelow}
 
 abbrev pub space : ℕ
 space = 32
@@ -25,13 +26,12 @@ firstOf text = take (foundAt text 0 space) text
 abbrev pub restOf : List ℕ → List ℕ
 restOf text = drop (foundAt text 0 space + 1) text
 
--- two words have the same n bytes from place i on
-unfoldable pub sameFrom : List ℕ → List ℕ → ℕ → ℕ → Bool
-sameFrom word name zero i = true
-sameFrom word name (suc n) i = eqb (getD word i 0) (getD name i 0) && sameFrom word name n (i + 1)
+abbrev pub sameAt : List ℕ → List ℕ → ℕ → Bool
+sameAt word name i = eqb (getD word i 0) (getD name i 0)
 
+-- two words have the same bytes
 unfoldable pub isSame : List ℕ → List ℕ → Bool
-isSame word name = eqb (length word) (length name) && sameFrom word name (length name) 0
+isSame word name = eqb (length word) (length name) && allBelow (length name) (sameAt word name)
 
 -- the number of a word among names with a space between them, from place i on, where name k begins; n names at most
 unfoldable pub placeFrom : List ℕ → List ℕ → ℕ → ℕ → ℕ → ℕ

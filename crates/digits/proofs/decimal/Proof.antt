@@ -1,12 +1,13 @@
 -- `digits::decimal` meets its contract. The loop's invariant: the value and the rest of the word give what the whole word gives,
 -- and the value fits 32 bits, so that with one digit more it fits 64. The measure is what is left of the word.
-use Prim.Native.Nat.{ℕ, suc, _+_, _-_, _*_, _≤_, _<_}
+use Prim.Native.Nat.{ℕ, _+_, _-_, _*_, _≤_, _<_}
 use mathlib.Core.List.{List}
 use mathlib.Core.Path.{_≡_, sym, _∙_}
-use native.Mathlib.Omega.{arith}
+use native.Mathlib.Nat.{sub-zero, sub-eq-zero-of-le}
 use lib.ListN.{length, getD}
 use borrow.Author.Needs.{needs}
 use borrow.Author.Tests.{eq-eqb, ne-eqb, le-leb, lt-leb}
+use Rattle.numbers.proofs.Left.{more-left}
 use Rattle.digits.specs.declared.Number.the-variants as number
 use Rattle.digits.specs.Digits.{digitOf, largest, decimalFrom, decimalOf}
 use Rattle.digits.proofs.decimal.Statement.{statement}
@@ -22,29 +23,26 @@ module _ (word : List ℕ) where
   filled h = rw (ne-eqb _ _ h)
 
   begins : decimalFrom word (length word - 0) 0 0 ≡ decimalFrom word (length word) 0 0
-  begins = let all : length word - 0 ≡ length word = omega arith in rw all
+  begins = rw (sub-zero (length word))
 
   module _ (v i d : ℕ) (e : d ≡ digitOf (getD word i 0)) (h : i < length word) where
-    one : length word - i ≡ suc (length word - (i + 1))
-    one = omega arith
-
     no-digit : 9 < d → decimalFrom word (length word - i) v i ≡ number.Wrong
     unfolding decimalFrom
-    no-digit l = rw (one, ← e, lt-leb _ _ l)
+    no-digit l = rw (more-left h, ← e, lt-leb _ _ l)
 
     too-large : d ≤ 9 → largest < v * 10 + d → decimalFrom word (length word - i) v i ≡ number.Wrong
     unfolding decimalFrom
-    too-large l m = rw (one, ← e, le-leb _ _ l, lt-leb _ _ m)
+    too-large l m = rw (more-left h, ← e, le-leb _ _ l, lt-leb _ _ m)
 
     goes :
         d ≤ 9 → v * 10 + d ≤ largest →
         decimalFrom word (length word - i) v i ≡ decimalFrom word (length word - (i + 1)) (v * 10 + d) (i + 1)
     unfolding decimalFrom
-    goes l m = rw (one, ← e, le-leb _ _ l, le-leb _ _ m)
+    goes l m = rw (more-left h, ← e, le-leb _ _ l, le-leb _ _ m)
 
   ends : (v i : ℕ) → length word ≤ i → decimalFrom word (length word - i) v i ≡ number.Value v
   unfolding decimalFrom
-  ends v i h = let none : length word - i ≡ 0 = omega arith in rw none
+  ends v i h = rw (sub-eq-zero-of-le h)
 
 abbrev Inv-loop : tie.InvT-loop
 Inv-loop word value₀ at₀ value at =

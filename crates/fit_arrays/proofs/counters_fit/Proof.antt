@@ -12,9 +12,9 @@ use mir.Syntax.{w32}
 use mir.Val.{SFits}
 use mir.Facts.{toZ-ofZ}
 use Rattle.layout.specs.Layout.{mostCounters}
-use Rattle.lines.specs.Below.{allBelow}
+use Rattle.numbers.specs.Below.{allBelow}
 use Rattle.fit_arrays.specs.Arrays.{counterFits, countersFit}
-use Rattle.lines.proofs.Below.{all-fails, all-next, all-ends}
+use Rattle.numbers.proofs.Below.{all-fails, all-next, all-ends}
 use Rattle.fit_arrays.proofs.counters_fit.Statement.{statement}
 use Rattle.fit_arrays.proofs.counters_fit.Tie as tie
 

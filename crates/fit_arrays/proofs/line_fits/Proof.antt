@@ -6,9 +6,9 @@ use mathlib.Core.Bool.{true}
 use borrow.Author.Needs.{needs}
 use borrow.Author.Tests.{le-leb, lt-leb, not-true, not-false}
 use Rattle.lines.specs.Lines.{mostEntries}
-use Rattle.lines.specs.Below.{allBelow}
+use Rattle.numbers.specs.Below.{allBelow}
 use Rattle.fit_arrays.specs.Arrays.{entryFits, lineFits}
-use Rattle.lines.proofs.Below.{all-fails, all-next, all-ends}
+use Rattle.numbers.proofs.Below.{all-fails, all-next, all-ends}
 use Rattle.fit_arrays.proofs.line_fits.Statement.{statement}
 use Rattle.fit_arrays.proofs.line_fits.Tie as tie
 

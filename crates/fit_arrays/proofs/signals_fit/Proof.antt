@@ -7,9 +7,9 @@ use native.Mathlib.Omega.{arith}
 use borrow.Author.Needs.{needs}
 use borrow.Author.Tests.{not-true, not-false}
 use Rattle.layout.specs.Layout.{mostSignals}
-use Rattle.lines.specs.Below.{allBelow}
+use Rattle.numbers.specs.Below.{allBelow}
 use Rattle.fit_arrays.specs.Arrays.{signalFits, signalsFit}
-use Rattle.lines.proofs.Below.{all-fails, all-next, all-ends}
+use Rattle.numbers.proofs.Below.{all-fails, all-next, all-ends}
 use Rattle.fit_arrays.proofs.signals_fit.Statement.{statement}
 use Rattle.fit_arrays.proofs.signals_fit.Tie as tie
 

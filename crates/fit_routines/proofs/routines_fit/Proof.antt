@@ -5,9 +5,9 @@ use mathlib.Core.Bool.{true}
 use borrow.Author.Needs.{needs}
 use borrow.Author.Tests.{not-true, not-false}
 use Rattle.layout.specs.Layout.{mostRoutines}
-use Rattle.lines.specs.Below.{allBelow}
+use Rattle.numbers.specs.Below.{allBelow}
 use Rattle.fit_routines.specs.Routines.{slotFits}
-use Rattle.lines.proofs.Below.{all-fails, all-next, all-ends}
+use Rattle.numbers.proofs.Below.{all-fails, all-next, all-ends}
 use Rattle.fit_routines.proofs.routines_fit.Statement.{statement}
 use Rattle.fit_routines.proofs.routines_fit.Tie as tie
 

@@ -1,26 +1,28 @@
 -- `hex::fill` meets its contract. The loop's invariant: the bytes left, put into the buffer as it is, give what all of them give
 -- in the buffer as lent, and the count is at most that of all. The measure is the bytes left.
-use Prim.Native.Nat.{ℕ, suc, _+_, _-_, _≤_, _<_}
+use Prim.Native.Nat.{ℕ, _+_, _-_, _≤_, _<_}
 use mathlib.Core.List.{List}
 use mathlib.Core.Path.{_≡_, sym, _∙_}
+use native.Mathlib.Nat.{sub-zero, sub-eq-zero-of-le}
 use native.Mathlib.Omega.{arith}
 use lib.ListN.{set}
 use borrow.Author.Needs.{needs}
+use Rattle.numbers.proofs.Left.{more-left}
 use Rattle.hex.specs.Hex.{byteOf, writtenFrom}
 use Rattle.hex.proofs.fill.Statement.{statement}
 use Rattle.hex.proofs.fill.Tie as tie
 
 begins : (word l : List ℕ) (n : ℕ) → writtenFrom word (n - 0) l 0 ≡ writtenFrom word n l 0
-begins word l n = let all : n - 0 ≡ n = omega arith in rw all
+begins word l n = rw (sub-zero n)
 
 module _ (word l : List ℕ) (n i : ℕ) where
   goes : i < n → writtenFrom word (n - i) l i ≡ writtenFrom word (n - (i + 1)) (set l i (byteOf word i)) (i + 1)
   unfolding writtenFrom
-  goes h = let one : n - i ≡ suc (n - (i + 1)) = omega arith in rw one
+  goes h = rw (more-left h)
 
   ends : n ≤ i → writtenFrom word (n - i) l i ≡ l
   unfolding writtenFrom
-  ends h = let none : n - i ≡ 0 = omega arith in rw none
+  ends h = rw (sub-eq-zero-of-le h)
 
 abbrev Inv-loop : tie.InvT-loop
 Inv-loop word all bytes₀ count₀ bytes count =

@@ -1,15 +1,16 @@
 -- `hex::is_hex` meets its contract: its three tests are the definition's.
--- The loop's invariant: whether the bytes left are digits is whether all are. The measure is the bytes left.
-use Prim.Native.Nat.{ℕ, suc, _+_, _-_, _/_, _%_, _≤_, _<_}
+-- The loop's invariant: the bytes that were passed are digits. The measure is the bytes left.
+use Prim.Native.Nat.{ℕ, _-_, _/_, _%_, _≤_, _<_}
 use mathlib.Core.Bool.{true, false}
 use mathlib.Core.List.{List}
 use mathlib.Core.Path.{_≡_, sym, _∙_}
 use native.Mathlib.Omega.{arith}
-use lib.ListN.{length, getD}
+use lib.ListN.{length}
 use borrow.Author.Needs.{needs}
 use borrow.Author.Tests.{lt-ltb, le-ltb, le-leb, lt-leb, eq-eqb, ne-eqb}
-use Rattle.digits.specs.Digits.{digitOf}
-use Rattle.hex.specs.Hex.{longest, hexFrom, isHex}
+use Rattle.numbers.specs.Below.{allBelow}
+use Rattle.numbers.proofs.Below.{all-fails, all-next, all-ends}
+use Rattle.hex.specs.Hex.{longest, digitAt, isHex}
 use Rattle.hex.proofs.is_hex.Statement.{statement}
 use Rattle.hex.proofs.is_hex.Tie as tie
 
@@ -26,27 +27,14 @@ module _ (word : List ℕ) where
   unfolding isHex
   long some even more = rw (lt-ltb 0 (length word) (omega arith), eq-eqb _ _ even, lt-leb _ _ more)
 
-  digits : (length word ≡ 0 → ⊥) → length word % 2 ≡ 0 → length word / 2 ≤ longest → hexFrom word (length word) 0 ≡ isHex word
+  digits :
+      (length word ≡ 0 → ⊥) → length word % 2 ≡ 0 → length word / 2 ≤ longest →
+      allBelow (length word) (digitAt word) ≡ isHex word
   unfolding isHex
   digits some even room = rw (lt-ltb 0 (length word) (omega arith), eq-eqb _ _ even, le-leb _ _ room)
 
-  begins : (n : ℕ) → hexFrom word (n - 0) 0 ≡ hexFrom word n 0
-  begins n = let all : n - 0 ≡ n = omega arith in rw all
-
-  goes : (n i : ℕ) → i < n → digitOf (getD word i 0) ≤ 15 → hexFrom word (n - i) i ≡ hexFrom word (n - (i + 1)) (i + 1)
-  unfolding hexFrom
-  goes n i h d = let one : n - i ≡ suc (n - (i + 1)) = omega arith in rw (one, le-leb _ _ d)
-
-  stops : (n i : ℕ) → i < n → 15 < digitOf (getD word i 0) → hexFrom word (n - i) i ≡ false
-  unfolding hexFrom
-  stops n i h d = let one : n - i ≡ suc (n - (i + 1)) = omega arith in rw (one, lt-leb _ _ d)
-
-  ends : (n i : ℕ) → n ≤ i → hexFrom word (n - i) i ≡ true
-  unfolding hexFrom
-  ends n i h = let none : n - i ≡ 0 = omega arith in rw none
-
 abbrev Inv-loop : tie.InvT-loop
-Inv-loop word at₀ at = (hexFrom word (length word - at) at ≡ hexFrom word (length word) 0) × (at ≤ length word)
+Inv-loop word at₀ at = (allBelow at (digitAt word) ≡ true) × (at ≤ length word)
 
 abbrev μ-loop : tie.MeasureT-loop
 μ-loop word at₀ at = length word - at
@@ -63,26 +51,28 @@ returns-3 c = long _ (c .before .before .if1 .left) (c .before .if2 .left) (c .i
 -- past the three tests the digits decide
 tested :
     (c : tie.Else3 Inv-loop μ-loop) →
-    let word = c .before .before .before .before .args .word .now in hexFrom word (length word) 0 ≡ isHex word
+    let word = c .before .before .before .before .args .word .now in allBelow (length word) (digitAt word) ≡ isHex word
 tested c = digits _ (c .before .before .if1 .left) (c .before .if2 .left) (c .if3 .left)
 
 loop-holds : tie.Need-loop-holds Inv-loop μ-loop
-loop-holds c = (begins _ _, omega arith)
+unfolding allBelow
+loop-holds c = search needs
 
 returns-4 : tie.Need-returns-4 Inv-loop μ-loop
 returns-4 c =
     let l = c .before .before .before .before in
-    sym (stops _ _ _ (c .before .before .before .loop-test .taken) (rw (← (c .before .digit .ensures .0)) (c .if4 .taken)))
-    ∙ l .loop .inv .0 ∙ tested (l .before)
+    let other = lt-leb _ _ (rw (c .before .digit .ensures .0) at (c .if4 .taken)) in
+    sym (all-fails _ _ _ (c .before .before .before .loop-test .taken) other) ∙ tested (l .before)
 
 loop-again : tie.Need-loop-again Inv-loop μ-loop
 loop-again c =
     let l = c .before .before .before .before in
-    let test = c .before .before .before .loop-test .taken in
-    (sym (goes _ _ _ test (rw (← (c .before .digit .ensures .0)) (c .if4 .left))) ∙ l .loop .inv .0, omega arith)
+    (all-next _ _ (l .loop .inv .0) (le-leb _ _ (rw (c .before .digit .ensures .0) at (c .if4 .left))), omega arith)
 
 returns-5 : tie.Need-returns-5 Inv-loop μ-loop
-returns-5 c = sym (ends _ _ _ (c .loop-test .left)) ∙ c .before .loop .inv .0 ∙ tested (c .before .before)
+returns-5 c =
+    let l = c .before .loop in
+    sym (all-ends _ (l .inv .0) (l .inv .1) (c .loop-test .left)) ∙ tested (c .before .before)
 
 pub is-hex-spec : {M : Type 1} → statement M
 is-hex-spec =

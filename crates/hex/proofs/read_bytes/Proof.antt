@@ -1,9 +1,9 @@
 -- `hex::read_bytes` meets its contract: its two tests are the definition's, and `fill` puts the bytes into the buffer.
 -- A word that stands for bytes stands for at most so many as the buffer holds, as `fill` requires.
 use Prim.Native.Nat.{ℕ, _/_, _%_, _≤_}
-use mathlib.Core.Bool.{Bool, true, false, _&&_}
+use mathlib.Core.Bool.{true, false, _&&_}
 use mathlib.Core.List.{List, [], _∷_}
-use mathlib.Core.Path.{_≡_, refl, sym, _∙_}
+use mathlib.Core.Path.{_≡_, sym, _∙_}
 use native.Mathlib.Omega.{arith}
 use lib.Dec.{eqb, ltb, leb}
 use lib.ListN.{length}
@@ -11,22 +11,19 @@ use borrow.Author.Needs.{needs}
 use borrow.Author.Tests.{leb-true}
 use Rattle.hex.specs.declared.Bytes.the-variants as bytes
 use Rattle.digits.specs.Digits.{minus}
-use Rattle.hex.specs.Hex.{longest, hexFrom, isHex, writtenFrom, bytesIn, writtenIn}
+use Rattle.hex.specs.Hex.{longest, digitAt, isHex, writtenFrom, bytesIn, writtenIn}
 use Rattle.words.specs.Words.{isSame}
+use Rattle.numbers.specs.Below.{allBelow}
+use Rattle.numbers.proofs.Tests.{and-both}
 use Rattle.hex.proofs.read_bytes.Statement.{statement}
 use Rattle.hex.proofs.read_bytes.Tie as tie
-
--- of four tests that hold, the third
-third : (x y z w : Bool) → x && y && z && w ≡ true → z ≡ true
-third true true true w h = refl
-third true true false w h = h
-third true false z w h = cc
-third false y z w h = cc
 
 room : (word : List ℕ) → isHex word ≡ true → length word / 2 ≤ longest
 unfolding isHex
 room word h =
-    leb-true _ _ (third (ltb 0 (length word)) (eqb (length word % 2) 0) (leb (length word / 2) longest) (hexFrom word (length word) 0) h)
+    let even = ltb 0 (length word) && eqb (length word % 2) 0 in
+    let few = leb (length word / 2) longest in
+    leb-true _ _ (and-both even few (and-both (even && few) (allBelow (length word) (digitAt word)) h .0) .1)
 
 module _ (word l : List ℕ) where
   none : isSame word (minus ∷ []) ≡ true → (bytes.Count 0 ≡ bytesIn word) × (l ≡ writtenIn word l)

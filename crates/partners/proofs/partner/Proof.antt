@@ -1,13 +1,15 @@
 -- `partners::partner` meets its contract. The loop's invariant: the search from where the code is, as deep as it is, finds what
 -- the whole search finds. Each arm takes one step of it. The depth fits, since it is at most the number of steps passed.
-use Prim.Native.Nat.{ℕ, suc, _+_, _-_, _/_, _<_, _≤_}
+use Prim.Native.Nat.{ℕ, _+_, _-_, _/_, _<_, _≤_}
 use mathlib.Core.Path.{_≡_, sym, _∙_}
 use mathlib.Core.List.{List}
 use mathlib.Core.Logic.{⊎-elim, inl, inr}
+use native.Mathlib.Nat.{sub-eq-zero-of-le}
 use native.Mathlib.Omega.{arith}
 use borrow.Author.Needs.{needs}
 use borrow.Author.Tests.{ne-eqb}
 use lib.ListN.{length}
+use Rattle.numbers.proofs.Left.{more-left}
 use Rattle.kinds.specs.Steps.{stepBytes, opAt}
 use Rattle.partners.specs.Partners.{partnerBy, partnerOf}
 use Rattle.partners.proofs.partner.Statement.{statement}
@@ -17,11 +19,11 @@ use Rattle.partners.proofs.partner.Tie as tie
 module _ (s : List ℕ) (n d p : ℕ) where
   partner-on : p < n → partnerOf s (n - p) d p ≡ partnerBy (λ e. partnerOf s (n - (p + 1)) e (p + 1)) (opAt s p) d p
   unfolding partnerOf
-  partner-on h = let one-more : n - p ≡ suc (n - (p + 1)) = omega arith in rw one-more
+  partner-on h = rw (more-left h)
 
   partner-past : n ≤ p → partnerOf s (n - p) d p ≡ p
   unfolding partnerOf
-  partner-past h = let none : n - p ≡ 0 = omega arith in rw none
+  partner-past h = rw (sub-eq-zero-of-le h)
 
 abbrev Inv-scan : tie.InvT-scan
 Inv-scan steps first count at₀ depth₀ at depth =

@@ -1,12 +1,13 @@
 -- `words::find` meets its contract. The loop's invariant: the search from `at` on finds what the search from `from` on does, and `at` is
 -- between `from` and the text's length. The measure is what is left of the text.
-use Prim.Native.Nat.{ℕ, suc, _+_, _-_, _≤_, _<_, max}
+use Prim.Native.Nat.{ℕ, _+_, _-_, _≤_, _<_, max}
 use mathlib.Core.Path.{_≡_, sym, _∙_}
 use mathlib.Core.List.{List}
-use native.Mathlib.Omega.{arith}
+use native.Mathlib.Nat.{sub-eq-zero-of-le}
 use lib.ListN.{length, getD}
 use borrow.Author.Needs.{needs}
 use borrow.Author.Tests.{eq-eqb, ne-eqb}
+use Rattle.numbers.proofs.Left.{more-left}
 use Rattle.words.specs.Words.{findFrom, foundAt}
 use Rattle.words.proofs.find.Statement.{statement}
 use Rattle.words.proofs.find.Tie as tie
@@ -14,20 +15,17 @@ use Rattle.words.proofs.find.Tie as tie
 -- one turn of the search: it stops where the byte is, goes on to the next place where it is not, and ends behind the text
 module _ (text : List ℕ) (c at : ℕ) where
   module _ (within : at < length text) where
-    left : length text - at ≡ suc (length text - (at + 1))
-    left = omega arith
-
     stops : getD text at 0 ≡ c → foundAt text at c ≡ at
     unfolding findFrom
-    stops e = rw (left, eq-eqb _ _ e)
+    stops e = rw (more-left within, eq-eqb _ _ e)
 
     goes : (getD text at 0 ≡ c → ⊥) → foundAt text at c ≡ foundAt text (at + 1) c
     unfolding findFrom
-    goes n = rw (left, ne-eqb _ _ n)
+    goes n = rw (more-left within, ne-eqb _ _ n)
 
   ends : length text ≤ at → foundAt text at c ≡ at
   unfolding findFrom
-  ends h = let none : length text - at ≡ 0 = omega arith in rw none
+  ends h = rw (sub-eq-zero-of-le h)
 
 abbrev Inv-loop : tie.InvT-loop
 Inv-loop text from c at₀ at = (foundAt text at c ≡ foundAt text from c) × (from ≤ at) × (at ≤ max from (length text))

@@ -4,10 +4,12 @@ use Prim.Native.Nat.{ℕ, zero, suc, _+_, _-_, _≤_, _<_}
 use mathlib.Core.Path.{_≡_, refl, sym, _∙_}
 use mathlib.Core.Bool.{true, false}
 use mathlib.Core.List.{List}
+use native.Mathlib.Nat.{sub-zero}
 use native.Mathlib.Omega.{arith}
 use lib.ListN.{length, take, drop}
 use borrow.Author.Needs.{needs}
 use borrow.Author.Tests.{lt-ltb, le-ltb}
+use Rattle.numbers.proofs.Left.{more-left}
 use Rattle.words.specs.Words.{space, foundAt, isSame, placeFrom, placeOf}
 use Rattle.words.proofs.place_in.Statement.{statement}
 use Rattle.words.proofs.place_in.Tie as tie
@@ -19,7 +21,7 @@ module _ (names word : List ℕ) where
 
   begins : search-from 0 0 ≡ placeOf names word
   unfolding placeOf
-  begins = let all : length names - 0 ≡ length names = omega arith in rw all
+  begins = rw (sub-zero (length names))
 
   ends : (n k i : ℕ) → length names ≤ i → placeFrom names word n k i ≡ k
   unfolding placeFrom
@@ -31,16 +33,16 @@ module _ (names word : List ℕ) where
     abbrev name : List ℕ
     name = take (end - i) (drop i names)
 
-    left : length names - k ≡ suc (length names - (k + 1))
-    left = omega arith
+    name-left : k < length names
+    name-left = omega arith
 
     stops : isSame word name ≡ true → search-from k i ≡ k
     unfolding placeFrom
-    stops e = rw (left, lt-ltb _ _ within, ← found, e)
+    stops e = rw (more-left name-left, lt-ltb _ _ within, ← found, e)
 
     goes : isSame word name ≡ false → search-from k i ≡ search-from (k + 1) (end + 1)
     unfolding placeFrom
-    goes e = rw (left, lt-ltb _ _ within, ← found, e)
+    goes e = rw (more-left name-left, lt-ltb _ _ within, ← found, e)
 
 abbrev Inv-loop : tie.InvT-loop
 Inv-loop names word count₀ at₀ count at =

@@ -6,8 +6,8 @@ use mathlib.Core.Bool.{Bool, true, false, and-false, or-true, or-false}
 use native.Mathlib.Omega.{arith}
 use native.Mathlib.Decide.{ℕ-discrete}
 use native.Mathlib.Numerals.{add-one}
 use Rattle.numbers.proofs.Tests.{clash, and-both, both-true, by-flag}
-use Rattle.lines.specs.Below.{allBelow, anyBelow}
+use Rattle.numbers.specs.Below.{allBelow, anyBelow}
 
 module _ (test : ℕ → Bool) where
   pub all-holds : (n : ℕ) → allBelow n test ≡ true → (i : ℕ) → i < n → test i ≡ true
