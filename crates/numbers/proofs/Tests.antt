@@ -1,7 +1,7 @@
 -- Laws of tests: two tests joined by && or ||, a test that is not true or has both values, a choice by a test and a claim by one.
 -- By a test's two values: at each of them what is claimed computes, or one of the hypotheses says that true is false.
 use mathlib.Core.Path.{_≡_, refl, sym, _∙_}
-use mathlib.Core.Bool.{Bool, true, false, _&&_, _||_, true≢false}
+use mathlib.Core.Bool.{Bool, true, false, _&&_, _||_, true≢false, and-eq-true-iff}
 use mathlib.Core.Logic.{_⊎_, inl, inr}
 use Rattle.numbers.specs.Choice.{if_then_else_}
 
@@ -9,12 +9,12 @@ use Rattle.numbers.specs.Choice.{if_then_else_}
 pub clash : {P : Type 0} {t : Bool} → t ≡ true → t ≡ false → P
 clash h k = absurd (true≢false (sym h ∙ k))
 
+-- the two ways of the library's law
 pub and-both : (a b : Bool) → (a && b) ≡ true → (a ≡ true) × (b ≡ true)
-and-both true b h = (refl, h)
-and-both false b h = clash h refl
+and-both a b = and-eq-true-iff a b .0
 
 pub both-true : {a b : Bool} → a ≡ true → b ≡ true → (a && b) ≡ true
-both-true h k = rw (h, k)
+both-true {a} {b} h k = and-eq-true-iff a b .1 (h, k)
 
 pub neither : (a b : Bool) → (a || b) ≡ false → (a ≡ false) × (b ≡ false)
 neither true b h = clash refl h
