@@ -19,16 +19,15 @@ use Rattle.blocks.specs.declared.Walk.the-variants as walk
 use Rattle.verdicts.specs.Verdicts.{accepted, refused, _orElse_, unless, firstRefusal}
 use Rattle.layout.specs.Layout.{headerBytes, countsFit, layoutFits, layoutVerdict, countsOf}
 use Rattle.layout.specs.Layout.{routinesOf, stepsOf}
-use Rattle.directory.specs.Directory.{firstStep, stepCount, stepsBefore, entryVerdict, directoryVerdict, routinePart}
+use Rattle.directory.specs.Directory.{firstStep, stepCount, stepsBefore, Entries, entryVerdict, directoryVerdict, routinePart}
 use Rattle.kinds.specs.Steps.{stepAt}
 use Rattle.blocks.specs.Blocks.{beyond, unreadable, seen}
 use Rattle.book.specs.Book.{stepsPart, viewOf, routineWalk, stepVerdict, nestingOf, nestingAt, pausingAt}
 use Rattle.blocks.specs.Parse.{WhilesPause, blockPauses, Misplaced}
-use Rattle.book.specs.Accepted.{CountsInRange, OffsetsRight, LaidOut, DirectoryRight, ReadableStep}
-use Rattle.book.specs.Tells.{AllReadable, Nests}
+use Rattle.book.specs.Accepted.{CountsInRange, OffsetsRight, LaidOut, DirectoryRight, ReadableStep, AllReadable, Nests, AllNest}
 use Rattle.verdicts.proofs.First.{orElse-both, orElse-past, orElse-told, Decides, all-good, all-clear, first-told}
 use Rattle.book.proofs.Laid.{passed, counts-in-range, counts-fit, offsets-in-place}
-use Rattle.directory.proofs.Directory.{Entries, routine-within}
+use Rattle.directory.proofs.Directory.{routine-within}
 use Rattle.kinds.proofs.Readable.{readable-step, step-readable}
 use Rattle.book.proofs.Parts.{step-of-book, step-routine}
 use Rattle.blocks.proofs.Views.{view-beyond, view-seen, view-inside}
@@ -196,14 +195,14 @@ module _ (s : List ℕ) where
   nesting-decided = record { clear = λ r l. nests-clear s r; good = λ r l. clear-nests s r }
 
   pub pausing-decided :
-      (nests : (r : ℕ) → r < routinesOf s → Nests s r) →
+      (nests : AllNest s (routinesOf s)) →
       Decides (pausingAt s) (routinesOf s) (λ r. (h : r < routinesOf s) → WhilesPause (viewOf s r) (nests r h))
   pausing-decided nests =
       record { clear = λ r l w. pauses-clear s r (nests r l) (w l); good = λ r l e h. clear-pauses s r (nests r h) e }
 
   -- where each step of the book is readable, so is each place of a routine
   pub readable-places :
-      LaidOut s → DirectoryRight s → AllReadable s → (r : ℕ) → r < routinesOf s →
+      LaidOut s → DirectoryRight s → AllReadable s (stepsOf s) → (r : ℕ) → r < routinesOf s →
       (p : ℕ) → p < stepCount s r → viewOf s r p ≡ unreadable → ⊥
   readable-places laid directed all r h p l e =
       let i = firstStep s r + p in

@@ -1,6 +1,6 @@
 -- What reading a book answers is told for the reason that document 01 gives, nothing else is, and so exactly the accepted books pass.
 -- A reason settles each check up to its own; the other way, the first check that refuses has its reason.
-use Prim.Native.Nat.{ℕ, suc, _<_}
+use Prim.Native.Nat.{ℕ, suc}
 use mathlib.Core.Path.{_≡_, refl, _∙_, ap}
 use mathlib.Core.Bool.{Bool, true, false}
 use mathlib.Core.List.{List}
@@ -15,8 +15,8 @@ use Rattle.verdicts.specs.Verdicts.{accepted, refused, _orElse_, unless}
 use Rattle.layout.specs.Layout.{headerBytes, countsFit, layoutFits, layoutVerdict, routinesOf, stepsOf}
 use Rattle.directory.specs.Directory.{stepsBefore, directoryVerdict}
 use Rattle.book.specs.Book.{stepsVerdict, nestingVerdict, pausingVerdict, bookVerdict}
-use Rattle.book.specs.Accepted.{LaidOut, DirectoryRight, Accepted}
-use Rattle.book.specs.Tells.{AllReadable, Nests, Tells}
+use Rattle.book.specs.Accepted.{LaidOut, DirectoryRight, AllReadable, AllNest, Accepted}
+use Rattle.book.specs.Tells.{Tells}
 use Rattle.verdicts.proofs.First.{orElse-clear, orElse-refused, orElse-both, orElse-past, orElse-told}
 use Rattle.verdicts.proofs.First.{all-good, all-clear, not-good, first-claim, first-told}
 use Rattle.book.proofs.Laid.{counts-in-range, counts-fit, layout-fits, laid-out, laid-back}
@@ -24,9 +24,6 @@ use Rattle.book.proofs.Decided.{short-told, counts-told, offsets-told}
 use Rattle.book.proofs.Decided.{entries-decided, entry-wrong, directed, directory-clear, total-told, entry-told}
 use Rattle.book.proofs.Decided.{steps-decided, step-wrong, nesting-decided, pausing-decided, readable-places}
 use Rattle.book.proofs.Decided.{misplaced-told, endless-told, some-misplaced, some-endless}
-
-abbrev AllNest : List ℕ → Type 0
-AllNest s = (r : ℕ) → r < routinesOf s → Nests s r
 
 -- what is left to check behind each check that tells nothing
 module _ (s : List ℕ) (laid : LaidOut s) where
@@ -38,12 +35,12 @@ module _ (s : List ℕ) (laid : LaidOut s) where
     past-directory : bookVerdict s ≡ (stepsVerdict s orElse nestingVerdict s orElse pausingVerdict s)
     past-directory = past-layout ∙ orElse-past _ _ (directory-clear s dir)
 
-    module _ (all : AllReadable s) where
+    module _ (all : AllReadable s (stepsOf s)) where
       past-steps : bookVerdict s ≡ (nestingVerdict s orElse pausingVerdict s)
       unfolding stepsVerdict
       past-steps = past-directory ∙ orElse-past _ _ (all-clear (steps-decided s laid) all)
 
-      past-nesting : AllNest s → bookVerdict s ≡ pausingVerdict s
+      past-nesting : AllNest s (routinesOf s) → bookVerdict s ≡ pausingVerdict s
       unfolding nestingVerdict
       past-nesting nests = past-steps ∙ orElse-past _ _ (all-clear (nesting-decided s) nests)
 
@@ -118,7 +115,7 @@ module _ (s : List ℕ) where
           let wrong = not-good (steps-decided s laid) i l m in
           rw (step-wrong s i wrong) (Tells.step laid dir l before wrong))
 
-      module _ (all : AllReadable s) where
+      module _ (all : AllReadable s (stepsOf s)) where
         nesting-tells : ToldIf (nestingVerdict s)
         unfolding nestingVerdict
         nesting-tells n =
@@ -126,7 +123,7 @@ module _ (s : List ℕ) where
             let found = some-misplaced s r (readable-places s laid dir all r l) m in
             rw (misplaced-told s r (found .1)) (Tells.nesting laid dir all l before (found .1)))
 
-        pausing-tells : AllNest s → ToldIf (pausingVerdict s)
+        pausing-tells : AllNest s (routinesOf s) → ToldIf (pausingVerdict s)
         unfolding pausingVerdict
         pausing-tells nests n =
             first-claim (pausing-decided s nests) Told n (λ r l before m.

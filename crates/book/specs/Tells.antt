@@ -6,18 +6,11 @@ use mathlib.Core.Bool.{true, false}
 use mathlib.Core.List.{List}
 use lib.ListN.{length}
 use Rattle.layout.specs.Layout.{headerBytes, routinesOf, stepsOf}
-use Rattle.directory.specs.Directory.{firstStep, stepCount, stepsBefore}
-use Rattle.blocks.specs.Blocks.{deepest}
+use Rattle.directory.specs.Directory.{firstStep, stepsBefore, Entries}
 use Rattle.book.specs.Book.{viewOf}
-use Rattle.blocks.specs.Parse.{ParsedBlock, EachWhile, SomeWhile, WhilesPause, Misplaced}
-use Rattle.book.specs.Accepted.{CountsInRange, OffsetsRight, LaidOut, DirectoryRight, ReadableStep, Accepted}
-
--- every step is "taken apart into one of the 21 kinds"; routine r nests
-abbrev pub AllReadable : List ℕ → Type 0
-AllReadable s = (i : ℕ) → i < stepsOf s → ReadableStep s i
-
-abbrev pub Nests : List ℕ → ℕ → Type 0
-Nests s r = ParsedBlock (viewOf s r) deepest 0 (stepCount s r)
+use Rattle.blocks.specs.Parse.{EachWhile, SomeWhile, WhilesPause, Misplaced}
+use Rattle.book.specs.Accepted.{CountsInRange, OffsetsRight, LaidOut, DirectoryRight}
+use Rattle.book.specs.Accepted.{ReadableStep, AllReadable, AllNest, Accepted}
 
 pub data Tells (s : List ℕ) : ℕ → ℕ → Type 0 where
   -- "both 0 where nothing is turned down"
@@ -31,26 +24,26 @@ pub data Tells (s : List ℕ) : ℕ → ℕ → Type 0 where
   -- 4. "place is the first routine whose first step isn't the sum of the counts before it"
   entry :
       {r : ℕ} →
-      LaidOut s → r < routinesOf s → ((k : ℕ) → k < r → firstStep s k ≡ stepsBefore s k) → (firstStep s r ≡ stepsBefore s r → ⊥) →
+      LaidOut s → r < routinesOf s → Entries s r → (firstStep s r ≡ stepsBefore s r → ⊥) →
       Tells s 4 r
   -- "or R if only the total isn't S"
   total :
-      LaidOut s → ((k : ℕ) → k < routinesOf s → firstStep s k ≡ stepsBefore s k) → (stepsBefore s (routinesOf s) ≡ stepsOf s → ⊥) →
+      LaidOut s → Entries s (routinesOf s) → (stepsBefore s (routinesOf s) ≡ stepsOf s → ⊥) →
       Tells s 4 (routinesOf s)
   -- 5. "place is the first such step of the book"
   step :
       {p : ℕ} →
-      LaidOut s → DirectoryRight s → p < stepsOf s → ((i : ℕ) → i < p → ReadableStep s i) → (ReadableStep s p → ⊥) →
+      LaidOut s → DirectoryRight s → p < stepsOf s → AllReadable s p → (ReadableStep s p → ⊥) →
       Tells s 5 p
   -- 6. "Place is the step reached in reading order, routine by routine, numbered from the book's first step"
   nesting :
       {r p : ℕ} →
-      LaidOut s → DirectoryRight s → AllReadable s → r < routinesOf s → ((k : ℕ) → k < r → Nests s k) → Misplaced (viewOf s r) p →
+      LaidOut s → DirectoryRight s → AllReadable s (stepsOf s) → r < routinesOf s → AllNest s r → Misplaced (viewOf s r) p →
       Tells s 6 (firstStep s r + p)
   -- 7. "the lowest such while": the bodies of those in the routines before, and of those that lie lower in its own, pause
   pausing :
       {r : ℕ} (p : ℕ) →
-      LaidOut s → DirectoryRight s → AllReadable s → (nests : (k : ℕ) → k < routinesOf s → Nests s k) → (here : r < routinesOf s) →
+      LaidOut s → DirectoryRight s → AllReadable s (stepsOf s) → (nests : AllNest s (routinesOf s)) → (here : r < routinesOf s) →
       ((k : ℕ) (h : k < routinesOf s) → k < r → WhilesPause (viewOf s k) (nests k h)) →
       EachWhile (viewOf s r) (λ x pauses. x < p → pauses ≡ true) (nests r here) →
       SomeWhile (viewOf s r) (λ x pauses. (x ≡ p) × (pauses ≡ false)) (nests r here) →

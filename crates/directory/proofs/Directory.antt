@@ -10,7 +10,7 @@ use borrow.Author.Tests.{le-leb}
 use Rattle.numbers.specs.Numbers.{halfAt}
 use Rattle.kinds.specs.Steps.{stepBytes}
 use Rattle.layout.specs.Layout.{headerBytes, entryBytes, routinesOf, stepsOf, stepsFrom}
-use Rattle.directory.specs.Directory.{firstStep, stepCount, stepsBefore, routineFrom, routineStepsFrom}
+use Rattle.directory.specs.Directory.{firstStep, stepCount, stepsBefore, Entries, routineFrom, routineStepsFrom}
 
 -- the numbers of routine r's entry, in a book without bytes there
 pub entry-missing : (s : List ℕ) {r : ℕ} (k : ℕ) → length s / entryBytes ≤ r → halfAt s (headerBytes + k + entryBytes * r) ≡ 0
@@ -22,10 +22,6 @@ entry-missing s {r} k h =
 pub begins-there : (s : List ℕ) (r : ℕ) → routineFrom s r ≤ length s → routineStepsFrom s r ≡ routineFrom s r
 unfolding routineStepsFrom
 begins-there s r h = rw (le-leb _ _ h)
-
--- the first n entries keep the directory's rule
-abbrev pub Entries : List ℕ → ℕ → Type 0
-Entries s n = (r : ℕ) → r < n → firstStep s r ≡ stepsBefore s r
 
 module _ (s : List ℕ) where
   pub before-grows : (a b : ℕ) → a ≤ b → stepsBefore s a ≤ stepsBefore s b

@@ -1,5 +1,6 @@
 -- The directory of a book, and the steps of a routine: document 01, "The book", and refusal 4.
-use Prim.Native.Nat.{ℕ, zero, suc, _+_, _*_}
+use Prim.Native.Nat.{ℕ, zero, suc, _+_, _*_, _<_}
+use mathlib.Core.Path.{_≡_}
 use mathlib.Core.List.{List}
 use lib.Dec.{leb, eqb}
 use lib.ListN.{length, drop, take}
@@ -23,7 +24,10 @@ unfoldable pub stepsBefore : List ℕ → ℕ → ℕ
 stepsBefore s zero = 0
 stepsBefore s (suc r) = stepsBefore s r + stepCount s r
 
--- "entries follow each other from step 0 without gaps and end at S; a count may be 0"
+-- "entries follow each other from step 0 without gaps and end at S; a count may be 0": the first n do
+abbrev pub Entries : List ℕ → ℕ → Type 0
+Entries s n = (r : ℕ) → r < n → firstStep s r ≡ stepsBefore s r
+
 -- 4. "place is the first routine whose first step isn't the sum of the counts before it, or R if only the total isn't S"
 abbrev pub entryVerdict : List ℕ → ℕ → Verdict
 entryVerdict s r = unless (eqb (firstStep s r) (stepsBefore s r)) (refused 4 r)
