@@ -1,9 +1,9 @@
 -- What the layers above lean on in an accepted book: each routine is read through the part of the book that showing it gives.
 -- That part is the routine's own steps, so its steps and places are those of the book.
 -- As functions the places are equal, so what the book's clauses say of the one holds of the other.
-use Prim.Native.Nat.{ℕ, suc, _+_, _-_, _*_, _/_, _≤_, _<_}
-use mathlib.Core.Path.{_≡_, refl, _∙_, fun-ext, subst⁻¹}
-use mathlib.Core.Bool.{and-false}
+use Prim.Native.Nat.{ℕ, suc, _+_, _-_, _/_, _≤_, _<_}
+use mathlib.Core.Path.{_≡_, refl, ap, _∙_, fun-ext, subst⁻¹}
+use mathlib.Core.Bool.{true, false}
 use mathlib.Core.List.{List, []}
 use mathlib.Core.Logic.{_⊎_}
 use native.Mathlib.Decide.{decLt}
@@ -19,7 +19,7 @@ use Rattle.directory.specs.Directory.{firstStep, stepCount, routineFrom, routin
 use Rattle.kinds.specs.Steps.{stepBytes, stepAt}
 use Rattle.blocks.specs.Blocks.{View, stands, viewAt, deepest}
 use Rattle.partners.specs.Partners.{partnerOf}
-use Rattle.book.specs.Book.{stepsPart, viewOf, shown, shownFrom}
+use Rattle.book.specs.Book.{stepsPart, viewOf, isShown, shown, shownFrom}
 use Rattle.blocks.specs.Parse.{ParsedBlock, WhilesPause}
 use Rattle.book.specs.Accepted.{Accepted}
 use Rattle.book.specs.Tells.{nothing}
@@ -52,10 +52,10 @@ module _ (s : List ℕ) (r : ℕ) where
       P (viewOf s r) (stepCount s r) → P (viewAt (countsOf s) steps n) n
   own-places e k P h = rw (e, k) (subst⁻¹ (λ at. P at (stepCount s r)) (fun-ext own-place) h)
 
--- a number not below R shows nothing, whatever the book is told
-pub shown-none : (s : List ℕ) (r : ℕ) → routinesOf s ≤ r → shown s r ≡ []
-unfolding shown
-shown-none s r h = rw (le-ltb r (routinesOf s) h, and-false)
+-- where nothing is shown, that is the empty part at the book's start
+pub none-shown : (s : List ℕ) (r : ℕ) → isShown s r ≡ false → (shown s r ≡ []) × (shownFrom s r ≡ 0)
+unfolding shown shownFrom
+none-shown s r e = (rw e, rw e)
 
 module _ (s : List ℕ) (a : Accepted s) where
   -- each step is one of the kinds
@@ -70,21 +70,22 @@ module _ (s : List ℕ) (a : Accepted s) where
 
   -- r is one of its routines
   module _ (r : ℕ) (h : r < routinesOf s) where
+    is-shown : isShown s r ≡ true
+    is-shown = rw (told-only s (nothing a), lt-ltb r (routinesOf s) h)
+
     pub shown-routine : shown s r ≡ routineSteps s r
     unfolding shown
-    shown-routine = rw (told-only s (nothing a), lt-ltb r (routinesOf s) h)
+    shown-routine = rw is-shown
 
     pub shown-from : shownFrom s r ≡ routineFrom s r
     unfolding shownFrom
-    shown-from = rw (told-only s (nothing a), lt-ltb r (routinesOf s) h)
+    shown-from = rw is-shown
 
-    pub shown-size : length (shown s r) ≡ stepBytes * stepCount s r
-    shown-size =
+    -- its bytes are those of so many steps as the directory says
+    pub routine-steps : length (routineSteps s r) / stepBytes ≡ stepCount s r
+    routine-steps =
         let end = directory.routine-end s (a .directed .entries) (a .directed .total) (a .laid .offsets .size) r h in
-        rw shown-routine (shown-length s r end)
-
-    pub shown-steps : length (shown s r) / stepBytes ≡ stepCount s r
-    shown-steps = rw shown-size (mul-div-right (stepCount s r) (omega arith))
+        rw (shown-length s r end) (mul-div-right (stepCount s r) (omega arith))
 
     -- its steps are those of its part of the book, and so those where the directory says
     pub shown-step : (i : ℕ) → i < stepCount s r → stepAt (countsOf s) (shown s r) i ≡ stepAt (countsOf s) (stepsPart s) (firstStep s r + i)
@@ -96,21 +97,16 @@ module _ (s : List ℕ) (a : Accepted s) where
         let (k, e) = step-kind (firstStep s r + i) (omega (arith, routine-within r h)) in
         (k, shown-step i l ∙ e)
 
-    parsed : PausingParse (shownAt s r) (stepCount s r)
-    parsed = own-places s r shown-routine refl PausingParse (a .nesting r h, a .pausing r h)
+    -- "Nesting goes to depth 16.", "The body of each while must pause."
+    pub pausing-parse : {steps : List ℕ} {n : ℕ} → steps ≡ routineSteps s r → n ≡ stepCount s r → PausingParse (viewAt (countsOf s) steps n) n
+    pausing-parse e k = own-places s r e k PausingParse (a .nesting r h, a .pausing r h)
 
-    -- "Nesting goes to depth 16."
-    pub shown-parse : ParsedBlock (shownAt s r) deepest 0 (stepCount s r)
-    shown-parse = parsed .0
-
-    -- "The body of each while must pause."
-    pub shown-pausing : WhilesPause (shownAt s r) shown-parse
-    unfolding shown-parse
-    shown-pausing = parsed .1
+    pub shown-parse : PausingParse (shownAt s r) (stepCount s r)
+    shown-parse = pausing-parse shown-routine refl
 
     -- the search behind an opening, or behind an else, finds the marker at which the block there stops
     pub shown-partner :
         {d p q : ℕ} →
         ParsedBlock (shownAt s r) d (suc p) q → (shownAt s r q ≡ stands ElseMarker) ⊎ (shownAt s r q ≡ stands EndMarker) →
         partnerOf (shown s r) (length (shown s r) / stepBytes - (p + 1)) 0 (p + 1) ≡ q
-    shown-partner b k = rw shown-steps (finds-partner (countsOf s) (shown s r) (stepCount s r) b k)
+    shown-partner b k = rw (ap length shown-routine, routine-steps) (finds-partner (countsOf s) (shown s r) (stepCount s r) b k)

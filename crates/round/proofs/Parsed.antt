@@ -1,16 +1,14 @@
 -- The parse of a routine of an accepted book, with the pauses of its whiles: the book's acceptance gives both over the routine's part of
 -- the book, and its own steps have the same places.
-use Prim.Native.Nat.{ℕ, _/_, _<_}
-use mathlib.Core.Path.{_≡_, refl, subst}
+use Prim.Native.Nat.{ℕ, _<_}
+use mathlib.Core.Path.{_≡_, refl}
 use mathlib.Core.List.{List}
-use lib.ListN.{length}
-use Rattle.kinds.specs.Steps.{stepBytes}
 use Rattle.blocks.specs.Blocks.{deepest}
 use Rattle.blocks.specs.Parse.{ParsedBlock, WhilesPause}
 use Rattle.layout.specs.Layout.{routinesOf, countsOf}
 use Rattle.directory.specs.Directory.{stepCount, routineSteps}
 use Rattle.book.specs.Accepted.{Accepted}
-use Rattle.book.proofs.Laws.{PausingParse, own-places, shown-routine, shown-steps}
+use Rattle.book.proofs.Laws.{PausingParse, routine-steps, pausing-parse}
 use Rattle.round.specs.Jumps.{sizeOf}
 use Rattle.round.proofs.Leads.{formAt}
 
@@ -19,10 +17,10 @@ module _ (book : List ℕ) (a : Accepted book) (r : ℕ) (h : r < routinesOf boo
   steps = routineSteps book r
 
   pub size-same : sizeOf (routineSteps book r) ≡ stepCount book r
-  size-same = subst (λ (part : List ℕ). length part / stepBytes ≡ stepCount book r) (shown-routine book a r h) (shown-steps book a r h)
+  size-same = routine-steps book a r h
 
   parsed : PausingParse (formAt (countsOf book) steps) (sizeOf steps)
-  parsed = own-places book r refl size-same PausingParse (a .nesting r h, a .pausing r h)
+  parsed = pausing-parse book a r h refl size-same
 
   pub parse-of : ParsedBlock (formAt (countsOf book) (routineSteps book r)) deepest 0 (sizeOf (routineSteps book r))
   parse-of = parsed .0

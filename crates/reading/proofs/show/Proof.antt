@@ -2,27 +2,25 @@
 -- directory says, and by the directory of an accepted book they begin in the book.
 use Prim.Native.Nat.{ℕ, _<_, _≤_}
 use mathlib.Core.Path.{_≡_, refl, sym, ap, _∙_}
-use mathlib.Core.Bool.{and-false}
-use mathlib.Core.List.{List, []}
+use mathlib.Core.Bool.{false, and-false}
+use mathlib.Core.List.{List}
 use native.Mathlib.Omega.{arith}
 use borrow.Author.Needs.{needs}
 use borrow.Author.Tests.{ne-eqb, le-ltb}
 use Rattle.verdicts.specs.Verdicts.{verdictOf}
 use Rattle.layout.specs.Layout.{routinesOf}
-use Rattle.book.specs.Book.{bookVerdict, shown, shownFrom}
+use Rattle.book.specs.Book.{bookVerdict, isShown}
 use Rattle.verdicts.proofs.Answers.{refuses}
 use Rattle.directory.proofs.Directory.{routine-start, begins-there}
-use Rattle.book.proofs.Laws.{shown-none, shown-routine, shown-from}
+use Rattle.book.proofs.Laws.{none-shown, shown-routine, shown-from}
 use Rattle.book.proofs.Telling.{number-accepted}
 use Rattle.reading.proofs.show.Statement.{statement}
 use Rattle.reading.proofs.show.Tie as tie
 
-refused-none : (s : List ℕ) (r : ℕ) → (bookVerdict s .number ≡ 0 → ⊥) → (shown s r ≡ []) × (shownFrom s r ≡ 0)
-unfolding shown shownFrom
-refused-none s r n = (rw (ne-eqb _ _ n), rw (ne-eqb _ _ n))
+refused-none : (s : List ℕ) (r : ℕ) → (bookVerdict s .number ≡ 0 → ⊥) → isShown s r ≡ false
+refused-none s r n = rw (ne-eqb _ _ n)
 
-behind-none : (s : List ℕ) (r : ℕ) → routinesOf s ≤ r → shownFrom s r ≡ 0
-unfolding shownFrom
+behind-none : (s : List ℕ) (r : ℕ) → routinesOf s ≤ r → isShown s r ≡ false
 behind-none s r h = rw (le-ltb r (routinesOf s) h, and-false)
 
 told : (c : tie.After-enum-told) → bookVerdict (c .before .before .before .before .args .book .now) .number ≡ 0
@@ -31,9 +29,10 @@ told c = ap (λ v. v .number) (sym (c .before .before .read-book .ensures) ∙ a
 returns : tie.Need-returns
 returns c =
     let call = c .before .before in
+    let args = call .before .before .args in
+    let wrong = refuses (call .read-book .result) (c .before .match .keys2) in
     let none =
-    refused-none (call .before .before .args .book .now) (call .before .before .args .routine)
-    (λ z. refuses (call .read-book .result) (c .before .match .keys2) (ap (λ v. v .number) (call .read-book .ensures) ∙ z)) in
+    none-shown _ _ (refused-none (args .book .now) (args .routine) (λ z. wrong (ap (λ v. v .number) (call .read-book .ensures) ∙ z))) in
     (sym (none .0), (refl, omega (arith, none .1)))
 
 returns-2 : tie.Need-returns-2
@@ -41,7 +40,8 @@ returns-2 c =
     let start = c .before .before .before .before .before .before .before in
     let behind : routinesOf (start .args .book .now) ≤ start .args .routine =
     omega (arith, c .before .if1 .taken, c .before .before .routines .ensures .0) in
-    (sym (shown-none _ _ behind), (refl, omega (arith, behind-none (start .args .book .now) (start .args .routine) behind)))
+    let none = none-shown _ _ (behind-none (start .args .book .now) (start .args .routine) behind) in
+    (sym (none .0), (refl, omega (arith, none .1)))
 
 returns-3 : tie.Need-returns-3
 returns-3 c =
