@@ -6,6 +6,7 @@ use mathlib.Core.Path.{_≡_, refl, ap, _∙_, subst}
 use mathlib.Core.Bool.{Bool, true, false}
 use mathlib.Core.List.{List}
 use mathlib.Core.Logic.{_⊎_}
+use native.Mathlib.Nat.{add-sub-cancel}
 use native.Mathlib.Numerals.{add-one}
 use native.Mathlib.Omega.{arith}
 use lib.Dec.{eqb}
@@ -84,7 +85,7 @@ module _ (counts : Counts) (steps : List ℕ) where
 
   -- within an inner pair an opening closes the pair
   closes : (d p : ℕ) → (if eqb (d + 1) 0 then p else openingBefore steps (d + 1 - 1) p) ≡ openingBefore steps d p
-  closes d p = let k : d + 1 - 1 ≡ d = omega arith in rw (ne-eqb (d + 1) 0 (λ e. omega arith), k)
+  closes d p = rw (ne-eqb (d + 1) 0 (λ e. omega arith), add-sub-cancel d 1)
 
   -- the search passes over whole blocks, and over a step with its blocks
   mutual
