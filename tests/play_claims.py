@@ -506,7 +506,7 @@ use Rattle.verdicts.specs.Verdicts.{refused, firstRefusal}
 use Rattle.layout.specs.Layout.{layoutVerdict}
 use Rattle.directory.specs.Directory.{stepsBefore, directoryVerdict, routinePart}
 use Rattle.book.specs.Book.{bookVerdict}
-use Rattle.numbers.specs.Below.{allBelow, anyBelow}
+use Rattle.numbers.specs.Below.{allBelow, anyBelow, sumBelow}
 use Rattle.lines.specs.Lines.{isIn, appended}
 use Rattle.game.specs.Game.{blankGame, withStart}
 use Rattle.fit_arrays.specs.Arrays.{entryFits, lineFits, countersFit, signalsFit}
@@ -519,7 +519,7 @@ use Rattle.round.specs.Actions.{kept, each, atStart}
 use Rattle.round.specs.Jumps.{pastPartner, openingBefore, fromEnd}
 use Rattle.round.specs.Ticks.{waitsFor, tickOf, effectOn}
 use Rattle.round.specs.Rounds.{allDone}
-use Rattle.round.specs.History.{sumBelow, sumOver, howMany}
+use Rattle.round.specs.History.{sumOver, howMany}
 use Rattle.round.specs.Answers.{marksIn, written}
 use Rattle.round.specs.Evaluation.{firstSteps, book-verdict, ticksBy, passBy, instantBy}
 use Rattle.round.specs.Script.{Command, Book, Read, Show, SetUp, Order, Round, Poke, PokeCounter, Log, Facts, Dump, Lines}

@@ -4,6 +4,7 @@ use mathlib.Core.Path.{_≡_, refl}
 use mathlib.Core.List.{List, [], _∷_, _++_, map}
 use lib.ListN.{length}
 use Rattle.kinds.specs.Steps.{rowOf, decoded, stepAt}
+use Rattle.numbers.specs.Below.{sumBelow}
 use Rattle.verdicts.specs.declared.Verdict.{Verdict}
 use Rattle.verdicts.specs.Verdicts.{accepted, refused, firstRefusal}
 use Rattle.layout.specs.Layout.{layoutVerdict}
@@ -71,5 +72,5 @@ examples =
 
 pub as-told : map (λ e. bookVerdict (e .bytes)) examples ≡ map (λ e. e .tells) examples
 unfolding bookVerdict layoutVerdict directoryVerdict stepsVerdict nestingVerdict pausingVerdict routineWalk routinePart routineOf stepOf
-    blockBy viewAt stepAt decoded rowOf stepsBefore firstRefusal joined times
+    blockBy viewAt stepAt decoded rowOf stepsBefore sumBelow firstRefusal joined times
 as-told = refl

@@ -8,6 +8,7 @@ use native.Mathlib.Decide.{ℕ-discrete}
 use lib.ListN.{length, List·getD-eq-default}
 use borrow.Author.Tests.{le-leb}
 use Rattle.numbers.specs.Numbers.{halfAt}
+use Rattle.numbers.specs.Below.{sumBelow}
 use Rattle.kinds.specs.Steps.{stepBytes}
 use Rattle.layout.specs.Layout.{headerBytes, entryBytes, routinesOf, stepsOf, stepsFrom}
 use Rattle.directory.specs.Directory.{firstStep, stepCount, stepsBefore, Entries, routineFrom, routineStepsFrom}
@@ -25,7 +26,7 @@ begins-there s r h = rw (le-leb _ _ h)
 
 module _ (s : List ℕ) where
   pub before-grows : (a b : ℕ) → a ≤ b → stepsBefore s a ≤ stepsBefore s b
-  unfolding stepsBefore
+  unfolding stepsBefore sumBelow
   before-grows a zero h = let e : a ≡ 0 = omega arith in rw e (omega arith)
   before-grows a (suc b) h =
       elim (ℕ-discrete a (suc b)) [
@@ -35,7 +36,7 @@ module _ (s : List ℕ) where
 
   module _ (entries : Entries s (routinesOf s)) (total : stepsBefore s (routinesOf s) ≡ stepsOf s) where
     pub routine-within : (r : ℕ) → r < routinesOf s → firstStep s r + stepCount s r ≤ stepsOf s
-    unfolding stepsBefore
+    unfolding stepsBefore sumBelow
     routine-within r h = omega (arith, entries r h, before-grows (suc r) (routinesOf s) h)
 
     module _ (size : length s ≡ stepsFrom s + stepBytes * stepsOf s) where

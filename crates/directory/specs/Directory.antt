@@ -1,10 +1,11 @@
 -- The directory of a book, and the steps of a routine: document 01, "The book", and refusal 4.
-use Prim.Native.Nat.{ℕ, zero, suc, _+_, _*_, _<_}
+use Prim.Native.Nat.{ℕ, _+_, _*_, _<_}
 use mathlib.Core.Path.{_≡_}
 use mathlib.Core.List.{List}
 use lib.Dec.{leb, eqb}
 use lib.ListN.{length, drop, take}
 use Rattle.numbers.specs.Choice.{if_then_else_}
+use Rattle.numbers.specs.Below.{sumBelow}
 use Rattle.numbers.specs.Numbers.{halfAt}
 use Rattle.kinds.specs.declared.Step.{Step}
 use Rattle.kinds.specs.Steps.{stepBytes, stepAt}
@@ -21,8 +22,7 @@ stepCount s r = halfAt s (headerBytes + 2 + entryBytes * r)
 
 -- the sum of the counts before routine r; it does not wrap
 unfoldable pub stepsBefore : List ℕ → ℕ → ℕ
-stepsBefore s zero = 0
-stepsBefore s (suc r) = stepsBefore s r + stepCount s r
+stepsBefore s r = sumBelow (stepCount s) r
 
 -- "entries follow each other from step 0 without gaps and end at S; a count may be 0": the first n do
 abbrev pub Entries : List ℕ → ℕ → Type 0

@@ -14,7 +14,7 @@ use Rattle.book.specs.Book.{stepsVerdict, routineWalk, nestingVerdict, pausingV
 use Rattle.book.specs.Examples.{t3}
 use Rattle.game.specs.declared.Routine.{Routine}
 use Rattle.game.specs.declared.Game.{Game}
-use Rattle.numbers.specs.Below.{allBelow, anyBelow}
+use Rattle.numbers.specs.Below.{allBelow, anyBelow, sumBelow}
 use Rattle.lines.specs.Lines.{isIn}
 use Rattle.game.specs.Game.{continuing, ended, withRoutine, withStart}
 use Rattle.fit_arrays.specs.Arrays.{entryFits, lineFits, countersFit, signalsFit}
@@ -69,7 +69,7 @@ examples =
 pub as-told : map (λ e. ordered t3 (e .game) (e .kind) (e .number) .verdict) examples ≡ map (λ e. e .tells) examples
 unfolding ordered orderVerdict newGame isSized fitsBook routineFits slotFits entryFits lineFits countersFit signalsFit isIn allBelow anyBelow
     bookVerdict layoutVerdict directoryVerdict stepsVerdict nestingVerdict pausingVerdict routineWalk routinePart routineOf stepOf
-    blockBy viewAt stepAt decoded rowOf stepsBefore firstRefusal
+    blockBy viewAt stepAt decoded rowOf stepsBefore sumBelow firstRefusal
 as-told = refl
 
 -- a start of a routine that has ended adds nothing

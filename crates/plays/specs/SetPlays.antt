@@ -15,7 +15,7 @@ use Rattle.directory.specs.Directory.{stepsBefore, directoryVerdict, routinePar
 use Rattle.book.specs.Book.{stepsVerdict, routineWalk, nestingVerdict, pausingVerdict, bookVerdict}
 use Rattle.book.specs.Examples as document
 use Rattle.game.specs.declared.Game.{Game}
-use Rattle.numbers.specs.Below.{allBelow, anyBelow}
+use Rattle.numbers.specs.Below.{allBelow, anyBelow, sumBelow}
 use Rattle.lines.specs.Lines.{empty, isIn, pushed, entriesOf, appended}
 use Rattle.game.specs.Game.{rested, stopped, blank, blankGame, withStart}
 use Rattle.fit_arrays.specs.Arrays.{entryFits, lineFits, countersFit, signalsFit}
@@ -23,7 +23,6 @@ use Rattle.fit_routines.specs.Routines.{routineFits, slotFits}
 use Rattle.fitting.specs.Fitting.{isSized, fitsBook}
 use Rattle.setup.specs.SetUp.{newGame, setUp}
 use Rattle.round.specs.State.{numbersWith, isEndThere, isThere}
-use Rattle.round.specs.History.{sumBelow}
 use Rattle.round.specs.Actions.{kept, each, placed, atStart}
 use Rattle.round.specs.Jumps.{pastPartner, openingBefore, fromEnd}
 use Rattle.round.specs.Ticks.{fresh, waitsFor, tickOf, tick, effectOn}

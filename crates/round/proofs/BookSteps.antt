@@ -12,7 +12,8 @@ use Rattle.directory.specs.Directory.{firstStep, stepCount, stepsBefore, routin
 use Rattle.book.specs.Book.{stepsPart}
 use Rattle.book.specs.Accepted.{Accepted}
 use Rattle.book.proofs.Parts.{same-taken, same-routine}
-use Rattle.round.specs.History.{sumBelow, countBelow, stepsIn}
+use Rattle.numbers.specs.Below.{sumBelow}
+use Rattle.round.specs.History.{countBelow, stepsIn}
 use Rattle.round.proofs.Along.{All, Distinct}
 use Rattle.round.proofs.Counting.{below-same, below-cut, one, count-all}
 use Rattle.round.proofs.Sums.{over-le, over-below}
@@ -24,11 +25,6 @@ routine-op book r p l =
     let part = same-taken (stepCount book r) (routinePart book r) p l .bytes 0 (omega arith) in
     let whole = same-routine book r p .bytes 0 (omega arith) in
     simp add-zero at (part ∙ whole)
-
-counts-below : (book : List ℕ) (n : ℕ) → sumBelow (λ r. stepCount book r) n ≡ stepsBefore book n
-unfolding sumBelow stepsBefore
-counts-below book zero = refl
-counts-below book (suc n) = rw (counts-below book n)
 
 module _ (book : List ℕ) (a : Accepted book) where
   module _ (test : ℕ → Bool) where
@@ -63,12 +59,12 @@ module _ (book : List ℕ) (a : Accepted book) where
 
   pub few-steps :
       (set : ℕ → ℕ → Bool) (L : List ℕ) → Distinct L → All (λ r. r < routinesOf book) L → stepsIn book set L ≤ mostSteps
+  unfolding stepsBefore
   few-steps set L d all =
       omega (
         arith,
         over-le _ (λ r. stepCount book r) L (λ r h. count-all (set r) (stepCount book r)),
         over-below (λ r. stepCount book r) (routinesOf book) L d all,
-        counts-below book (routinesOf book),
         a .directed .total,
         a .laid .counts .fewSteps,
       )

@@ -12,7 +12,8 @@ use borrow.Author.Tests.{eq-eqb, ne-eqb}
 use lib.Dec.{eqb}
 use Rattle.numbers.specs.Choice.{if_then_else_}
 use Rattle.numbers.proofs.Tests.{clash}
-use Rattle.round.specs.History.{sumBelow, countBelow}
+use Rattle.numbers.specs.Below.{sumBelow}
+use Rattle.round.specs.History.{countBelow}
 
 pub below-le : (f g : ℕ → ℕ) → ((r : ℕ) → f r ≤ g r) → (n : ℕ) → sumBelow f n ≤ sumBelow g n
 unfolding sumBelow

@@ -10,7 +10,8 @@ use native.Mathlib.Omega.{arith}
 use borrow.Author.Tests.{eq-eqb, ne-eqb}
 use lib.Dec.{eqb}
 use Rattle.directory.specs.Directory.{stepCount}
-use Rattle.round.specs.History.{sumBelow, countBelow, stepsIn}
+use Rattle.numbers.specs.Below.{sumBelow}
+use Rattle.round.specs.History.{countBelow, stepsIn}
 use Rattle.round.specs.Completed.{theStep}
 use Rattle.round.proofs.Along.{Distinct}
 use Rattle.round.proofs.Counting.{below-same, one}

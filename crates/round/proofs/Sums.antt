@@ -8,7 +8,8 @@ use mathlib.Core.Logic.{inl, inr, ⊎-elim, _≢_}
 use native.Mathlib.Omega.{arith}
 use lib.ListN.{length}
 use Rattle.numbers.proofs.Tests.{by-test}
-use Rattle.round.specs.History.{sumBelow, sumOver, Among}
+use Rattle.numbers.specs.Below.{sumBelow}
+use Rattle.round.specs.History.{sumOver, Among}
 use Rattle.round.specs.Actions.{kept}
 use Rattle.round.proofs.Counting.{without, without-other, below-without, one}
 use Rattle.round.proofs.Along.{All, Distinct}

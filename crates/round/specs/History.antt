@@ -1,17 +1,14 @@
 -- Counting in a book and in a list, and what is somewhere in a list.
-use Prim.Native.Nat.{ℕ, zero, suc, _+_}
+use Prim.Native.Nat.{ℕ, _+_}
 use mathlib.Core.Bool.{Bool}
 use mathlib.Core.Path.{_≡_}
 use mathlib.Core.List.{List, [], _∷_}
 use mathlib.Core.Logic.{_⊎_}
 use Rattle.numbers.specs.Choice.{if_then_else_}
+use Rattle.numbers.specs.Below.{sumBelow}
 use Rattle.directory.specs.Directory.{stepCount}
 
--- a sum over all numbers below n, and one over those of a list
-unfoldable pub sumBelow : (ℕ → ℕ) → ℕ → ℕ
-sumBelow f zero = 0
-sumBelow f (suc n) = sumBelow f n + f n
-
+-- a sum over the numbers of a list
 unfoldable pub sumOver : (ℕ → ℕ) → List ℕ → ℕ
 sumOver f [] = 0
 sumOver f (r ∷ rs) = f r + sumOver f rs

@@ -10,6 +10,7 @@ use borrow.Author.Tests.{eq-eqb, ne-eqb}
 use lib.Dec.{eqb}
 use Rattle.numbers.specs.Choice.{if_then_else_}
 use Rattle.numbers.specs.Numbers.{halfLimit}
+use Rattle.numbers.specs.Below.{sumBelow}
 use Rattle.verdicts.specs.declared.Verdict.{Verdict}
 use Rattle.verdicts.specs.Verdicts.{accepted, refused, firstRefusal}
 use Rattle.layout.specs.Layout.{routinesOf, stepsOf}
@@ -45,7 +46,7 @@ module _
           rw (← known, first, last, ← before)
 
 after : (s : List ℕ) (r : ℕ) → stepsBefore s (r + 1) ≡ stepsBefore s r + stepCount s r
-unfolding stepsBefore
+unfolding stepsBefore sumBelow
 after s r = rw (add-one r)
 
 abbrev Inv-loop : tie.InvT-loop
@@ -57,7 +58,7 @@ abbrev μ-loop : tie.MeasureT-loop
 μ-loop book all routine₀ sum₀ routine sum = all - routine
 
 loop-holds : tie.Need-loop-holds Inv-loop μ-loop
-unfolding stepsBefore
+unfolding stepsBefore sumBelow
 loop-holds c = (first-begins _ _, refl, search needs, search needs)
 
 returns : tie.Need-returns Inv-loop μ-loop
