@@ -98,7 +98,8 @@ module _ (s : List ℕ) (a : Accepted s) where
         (k, shown-step i l ∙ e)
 
     -- "Nesting goes to depth 16.", "The body of each while must pause."
-    pub pausing-parse : {steps : List ℕ} {n : ℕ} → steps ≡ routineSteps s r → n ≡ stepCount s r → PausingParse (viewAt (countsOf s) steps n) n
+    pub pausing-parse :
+        {steps : List ℕ} {n : ℕ} → steps ≡ routineSteps s r → n ≡ stepCount s r → PausingParse (viewAt (countsOf s) steps n) n
     pausing-parse e k = own-places s r e k PausingParse (a .nesting r h, a .pausing r h)
 
     pub shown-parse : PausingParse (shownAt s r) (stepCount s r)

@@ -8,7 +8,8 @@ use mathlib.Core.Logic.{_↔_, _⊎_, inl, inr, ⊎-elim, Iff·rfl, Iff·trans}
 use native.Mathlib.Omega.{arith}
 use Rattle.numbers.proofs.Tests.{clash}
 use Rattle.forms.specs.Timed.{timedCount}
-use Rattle.forms.proofs.Timed.{LeftOf, timed}
+use Rattle.forms.specs.Timed.{LeftOf}
+use Rattle.forms.proofs.Timed.{timed}
 use Rattle.directory.specs.Directory.{stepCount, routineStep}
 use Rattle.game.specs.declared.Routine.{Routine}
 use Rattle.game.specs.Game.{notStarted, continuing, rested, ended, stopped, blank}

@@ -8,11 +8,7 @@ use Rattle.kinds.specs.declared.Kind.the-variants.{Mark, Set, Add, Take, Signal
 use Rattle.kinds.specs.declared.Kind.the-variants.{Join, JoinFor, Read, Start, Stop, Suspend, Resume, If, Else, While, End}
 use Rattle.kinds.specs.declared.Step.{Step}
 use Rattle.kinds.specs.declared.Step.the-variants as step
-use Rattle.forms.specs.Timed.{Timed, restFor, waitFor, joinFor, timedCount}
-
--- a timed step, and a count left below its n
-abbrev pub LeftOf : Step → ℕ → Type 0
-LeftOf st left = (n : ℕ) × Timed st n × (left < n)
+use Rattle.forms.specs.Timed.{Timed, LeftOf, restFor, waitFor, joinFor, timedCount}
 
 timed-left : (st : Step) (k : ℕ) → k < timedCount st → LeftOf st k
 timed-left (step.Kind (Mark n)) k h = absurd (omega arith)

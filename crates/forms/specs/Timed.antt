@@ -1,5 +1,5 @@
 -- The timed kinds, those of ops 7, 9 and 11: "rest n", "wait n" and "join n" (cooperate_n, await_n and join_n in the paper).
-use Prim.Native.Nat.{ℕ}
+use Prim.Native.Nat.{ℕ, _<_}
 use Rattle.kinds.specs.declared.Kind.{Kind}
 use Rattle.kinds.specs.declared.Kind.the-variants.{Mark, Set, Add, Take, Signal, SignalNumber, Rest, RestFor, Wait, WaitFor}
 use Rattle.kinds.specs.declared.Kind.the-variants.{Join, JoinFor, Read, Start, Stop, Suspend, Resume, If, Else, While, End}
@@ -11,6 +11,10 @@ pub data Timed : Step → ℕ → Type 0 where
   restFor : {n : ℕ} → Timed (step.Kind (RestFor n)) n
   waitFor : {e n : ℕ} → Timed (step.Kind (WaitFor e n)) n
   joinFor : {r n : ℕ} → Timed (step.Kind (JoinFor r n)) n
+
+-- "the count left then lies from 0 to n − 1": so much may be left at this step
+abbrev pub LeftOf : Step → ℕ → Type 0
+LeftOf st left = (n : ℕ) × Timed st n × (left < n)
 
 -- the n of a timed kind; 0 for any other
 abbrev pub kindCount : Kind → ℕ

@@ -5,7 +5,7 @@ use mathlib.Core.List.{List}
 use lib.Dec.{ltb, eqb}
 use lib.ListN.{getD}
 use lib.IntN.{ℤ, pos, negsuc, _+ℤ_}
-use lib.Signed.{leZ, ltZ}
+use lib.Signed.{_≤ℤ_, leZ, ltZ}
 use Rattle.numbers.specs.declared.Sum.{Sum}
 use Rattle.numbers.specs.Choice.{if_then_else_}
 
@@ -44,6 +44,9 @@ lowestCounter = negsuc 999999
 
 abbrev pub highestCounter : ℤ
 highestCounter = pos 1000000
+
+abbrev pub InRange : ℤ → Type 0
+InRange v = (lowestCounter ≤ℤ v) × (v ≤ℤ highestCounter)
 
 abbrev pub isWithin : ℤ → ℤ → ℤ → Bool
 isWithin n low high = leZ low n && leZ n high

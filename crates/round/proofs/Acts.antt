@@ -7,13 +7,12 @@ use mathlib.Core.List.{List, [], _∷_}
 use lib.Dec.{eqb}
 use lib.ListN.{length}
 use lib.IntN.{ℤ}
-use lib.Signed.{_≤ℤ_}
 use Rattle.numbers.specs.declared.Sum.{Sum}
-use Rattle.numbers.specs.Numbers.{lowestCounter, highestCounter}
+use Rattle.numbers.specs.Numbers.{InRange}
 use Rattle.kinds.specs.declared.Step.{Step}
 use Rattle.kinds.specs.declared.Counts.{Counts}
 use Rattle.kinds.specs.Steps.{opAt, stepAt}
-use Rattle.forms.specs.Timed.{Timed}
+use Rattle.forms.specs.Timed.{LeftOf}
 use Rattle.game.specs.Game.{counterAt}
 use Rattle.round.specs.declared.Ending.{Ending}
 use Rattle.round.specs.declared.Ending.the-variants.{Ended, Rested, Missed, Continued}
@@ -29,10 +28,6 @@ use Rattle.round.specs.Answers.{opMark}
 use Rattle.round.specs.Demand.{isSignalOp, AsksFor, wait, waitFor, join, joinFor, read}
 use Rattle.round.proofs.Leads.{Leaves}
 use Rattle.round.proofs.Along.{All}
-
--- "A counter .. holds −1,000,000 to 1,000,000."
-abbrev pub InRange : ℤ → Type 0
-InRange v = (lowestCounter ≤ℤ v) × (v ≤ℤ highestCounter)
 
 -- each number given is in range, whatever signal it was given with
 abbrev pub NumbersRight : List (ℕ × ℤ) → Type 0
@@ -89,7 +84,7 @@ module _ (counts : Counts) (steps : List ℕ) where
   -- what fitting asks of a routine's position
   pub record Stands (x : Position) : Type 0 where
     pub inside : x .place ≤ sizeOf steps
-    pub whereBegun : x .begun ≡ true → (n : ℕ) × Timed (stepAt counts steps (x .place)) n × (x .left < n)
+    pub whereBegun : x .begun ≡ true → LeftOf (stepAt counts steps (x .place)) (x .left)
     pub elsewhere : x .begun ≡ false → x .left ≡ 0
 
 -- routine r stands at position x

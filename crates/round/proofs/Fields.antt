@@ -5,6 +5,7 @@ use mathlib.Core.Path.{_≡_, subst}
 use mathlib.Core.List.{List}
 use lib.IntN.{ℤ}
 use lib.Signed.{_≤ℤ_}
+use Rattle.numbers.specs.Numbers.{InRange}
 use Rattle.kinds.specs.declared.Kind.{Kind}
 use Rattle.kinds.specs.declared.Kind.the-variants.{Mark, Set, Add, Take, Signal, SignalNumber, Rest, RestFor, Wait, WaitFor}
 use Rattle.kinds.specs.declared.Kind.the-variants.{Join, JoinFor, Read, Start, Stop, Suspend, Resume, If, Else, While, End}
@@ -14,7 +15,6 @@ use Rattle.kinds.specs.declared.Row.{Row}
 use Rattle.kinds.specs.Steps.{table, fieldA, fieldB, fieldN, stepAt}
 use Rattle.kinds.proofs.Readable.{step-readable}
 use Rattle.partners.proofs.Scan.{Rows, _and_, step-holds, row-kind}
-use Rattle.round.proofs.Acts.{InRange}
 
 -- what the fields of a kind are
 abbrev pub FieldsRight : Counts → Kind → Type 0

@@ -9,6 +9,7 @@ use native.Mathlib.Decide.{decLt}
 use lib.Dec.{ltb}
 use lib.ListN.{length, getD, length-set, List·getD-eq-default}
 use lib.IntN.{ℤ, pos}
+use Rattle.numbers.specs.Numbers.{InRange}
 use Rattle.numbers.proofs.Tests.{by-test}
 use Rattle.layout.specs.Layout.{mostCounters, countersOf, countsOf}
 use Rattle.book.specs.Accepted.{Accepted}
@@ -23,7 +24,7 @@ use Rattle.round.specs.declared.Effect.{Effect}
 use Rattle.round.specs.declared.Effect.the-variants.{Nothing, Mark, Put, Add, Give, GiveNumber, Start, Stop, Suspend, Resume}
 use Rattle.round.specs.State.{State, withGame, withNumbers}
 use Rattle.round.specs.Ticks.{mostNumbers, given, effectOn}
-use Rattle.round.proofs.Acts.{InRange, NumbersRight, Ranged, Right, nothing, mark, put, add, give, giveNumber}
+use Rattle.round.proofs.Acts.{NumbersRight, Ranged, Right, nothing, mark, put, add, give, giveNumber}
 use Rattle.round.proofs.Acts.{start, stop, suspend, resume}
 use Rattle.round.proofs.Along.{all-append}
 use Rattle.round.proofs.Sound.{Sound}

@@ -12,7 +12,7 @@ use lib.ListN.{getD}
 use lib.IntN.{ℤ, pos}
 use lib.Signed.{leZ-yes}
 use Rattle.numbers.specs.Choice.{if_then_else_}
-use Rattle.numbers.specs.Numbers.{relationOf}
+use Rattle.numbers.specs.Numbers.{InRange, relationOf}
 use Rattle.numbers.specs.Sums.{AddsUp, within, above, below}
 use Rattle.numbers.proofs.Sums.{adds-up}
 use Rattle.numbers.proofs.Tests.{by-test}
@@ -37,7 +37,7 @@ use Rattle.round.specs.Ticks.{fresh, countAt, tickOf, tickAt, tick}
 use Rattle.round.specs.Demand.{wait, waitFor, join, joinFor, read}
 use Rattle.round.proofs.Forms.{opOf, step-op}
 use Rattle.round.proofs.Leads.{isHalt, nextBy, formAt, Leaves, leads, restOver}
-use Rattle.round.proofs.Acts.{InRange, NumbersRight, Sorted, SortedTick}
+use Rattle.round.proofs.Acts.{NumbersRight, Sorted, SortedTick}
 use Rattle.round.proofs.Acts.{nothing, mark, put, add, give, giveNumber, start, stop, suspend, resume}
 use Rattle.round.proofs.Acts.{silent, marks, gives, givesNumber, ends, rests}
 use Rattle.round.proofs.Fields.{FieldsRight, fields-right}

@@ -53,8 +53,8 @@ endsRoutine (past r p t) = false
 endsRoutine (marked r n) = false
 endsRoutine (completed r p) = false
 
--- what a step of op 8 to 12 asks for: "its signal, the joined routine's end or the signal's k-th number", by the table's "8 wait, 9 wait n",
--- "10 join, 11 join n" and "12 read"
+-- what a step of op 8 to 12 asks for: "its signal, the joined routine's end or the signal's k-th number", by the table's "8 wait, 9 wait
+-- n", "10 join, 11 join n" and "12 read"
 pub data AsksFor : Step → Thing → Type 0 where
   wait : {e : ℕ} → AsksFor (step.Kind (kind.Wait e)) (signal e)
   waitFor : {e n : ℕ} → AsksFor (step.Kind (kind.WaitFor e n)) (signal e)

@@ -1,4 +1,4 @@
--- `ordering::order_verdict` meets its contract: each check that accepts drops out of the verdict, and the first that refuses is the verdict.
+-- `ordering::order_verdict` meets its contract: each check that accepts drops out of the verdict, and the first that refuses is it.
 use mathlib.Core.Path.{_≡_, sym, ap, _∙_}
 use borrow.Author.Needs.{needs}
 use borrow.Author.Tests.{eq-eqb, ne-eqb, le-ltb, lt-ltb, not-true, not-false}
