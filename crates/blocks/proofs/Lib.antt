@@ -1,5 +1,5 @@
-pub mod Faults
 pub mod Order
 pub mod Parses
+pub mod Sound
 pub mod Views
 pub mod Whiles

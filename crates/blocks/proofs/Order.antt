@@ -1,6 +1,6 @@
 -- The misplaced step of a routine is the one that the reader of Blocks answers with, there is at most one, and a parse leaves none.
 -- A scan over the places keeps the openings or the first fault: what is reached, misplaced or parsed each settles where it comes to.
-use Prim.Native.Nat.{ℕ, zero, suc, _+_, _≤_, _<_}
+use Prim.Native.Nat.{ℕ, zero, suc, _≤_, _<_}
 use mathlib.Core.Path.{_≡_, refl, sym, _∙_}
 use mathlib.Core.List.{List, [], _∷_}
 use native.Mathlib.Decide.{decLe, decLt}
@@ -16,10 +16,10 @@ use Rattle.blocks.specs.declared.Fault.the-variants.{Unreadable, Misnest
 use Rattle.blocks.specs.declared.Walk.{Walk}
 use Rattle.blocks.specs.declared.Walk.the-variants as walk
 use Rattle.blocks.specs.Blocks.{View, beyond, unreadable, stands, deepest, routineOf}
-use Rattle.blocks.specs.Parse.{ParsedBlock, ParsedStep, Open, openIf, openElse, openWhile, openingOf, Reached, Misplaced}
-use Rattle.blocks.proofs.Views.{within, stands-within, stands-not-beyond, unreadable-not-beyond}
-use Rattle.blocks.proofs.Parses.{routine-sound}
-use Rattle.blocks.proofs.Faults.{misnested, unreadable-reached}
+use Rattle.blocks.specs.Parse.{ParsedBlock, Open, openIf, openElse, openWhile, openingOf, Reached, Misplaced}
+use Rattle.blocks.proofs.Views.{within, stands-not-beyond, unreadable-not-beyond}
+use Rattle.blocks.proofs.Parses.{block-reached}
+use Rattle.blocks.proofs.Sound.{reached-within, routine-sound, misnested, unreadable-reached}
 
 -- the openings at a place, or the first fault before it
 data Scan : Type 0 where
@@ -89,32 +89,7 @@ module _ (at : ℕ → View) where
   reached-scan (Reached.while {os = os} {p = p} r h l) = scan-next p (reached-scan r) h (rw (lt-ltb (length os) deepest l))
   reached-scan (Reached.end {p = p} r h) = scan-next p (reached-scan r) h refl
 
-  -- what is parsed is read, with the openings around it
-  mutual
-    pub block-reached :
-        {os : List Open} {d p e : ℕ} → ParsedBlock at d p e → length os + d ≤ deepest → Reached at os p → Reached at os e
-    block-reached ParsedBlock.empty l r = r
-    block-reached (ParsedBlock.more s b) l r = block-reached b l (step-reached s l r)
-
-    pub step-reached :
-        {os : List Open} {d p e : ℕ} → ParsedStep at d p e → length os + d ≤ deepest → Reached at os p → Reached at os e
-    step-reached (ParsedStep.plain h) l r = Reached.plain r h
-    step-reached (ParsedStep.pausing h) l r = Reached.pausing r h
-    step-reached (ParsedStep.ifOnly h b k) l r = Reached.end (block-reached b (omega arith) (Reached.if r h (omega arith))) k
-    step-reached (ParsedStep.ifElse h b k c j) l r =
-        Reached.end (block-reached c (omega arith) (Reached.else (block-reached b (omega arith) (Reached.if r h (omega arith))) k)) j
-    step-reached (ParsedStep.loop h b k) l r = Reached.end (block-reached b (omega arith) (Reached.while r h (omega arith))) k
-
   module _ (n : ℕ) (out : (p : ℕ) → n ≤ p → at p ≡ beyond) (inside : (p : ℕ) → p < n → at p ≡ beyond → ⊥) where
-    reached-within : {os : List Open} {p : ℕ} → Reached at os p → p ≤ n
-    reached-within Reached.start = omega arith
-    reached-within (Reached.plain {p = p} r h) = stands-within at n out p h
-    reached-within (Reached.pausing {p = p} r h) = stands-within at n out p h
-    reached-within (Reached.if {p = p} r h l) = stands-within at n out p h
-    reached-within (Reached.else {p = p} r h) = stands-within at n out p h
-    reached-within (Reached.while {p = p} r h l) = stands-within at n out p h
-    reached-within (Reached.end {p = p} r h) = stands-within at n out p h
-
     -- a fault at a place of the routine is the last word
     wrong-last :
         {os : List Open} {x : View} {f : Fault} (p : ℕ) → Reached at os p → at p ≡ x → (x ≡ beyond → ⊥) → atPlace x p os ≡ wrong f →
@@ -135,11 +110,11 @@ module _ (at : ℕ → View) where
     misplaced-last (Misplaced.unclosed {p = p} r h) =
         elim (decLt p n) [
           | yes l ↦ absurd (inside p l h)
-          | no l ↦ let k : n ≡ p = omega (arith, reached-within r) in rw (k, reached-scan r)
+          | no l ↦ let k : n ≡ p = omega (arith, reached-within at n out r) in rw (k, reached-scan r)
         ]
 
     parsed-last : ParsedBlock at deepest 0 n → atLast (scan n) ≡ opens []
-    parsed-last b = rw (reached-scan (block-reached {os = []} b (omega arith) Reached.start))
+    parsed-last b = rw (reached-scan (block-reached at n b Reached.start (omega arith)))
 
     pub misplaced-one : {p q : ℕ} → Misplaced at p → Misplaced at q → p ≡ q
     misplaced-one v w = cc (misplaced-last v, misplaced-last w)

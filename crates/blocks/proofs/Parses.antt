@@ -1,25 +1,25 @@
--- The reader of Blocks and the parse of Parse agree: what it is past is a parse, and it is past what has a parse.
--- The first goes by the depth left and the steps left, the second by the parse; the lowest while without a pause is read off the parse.
+-- The reader of Blocks is past what has a parse, and tells what the parse says: whether it pauses, and its lowest while without a pause.
+-- By the parse: its steps go forward, so those left never run out. What is parsed is also reached, with the openings around it.
 use Prim.Native.Nat.{ℕ, zero, suc, _-_, _+_, _≤_, _<_, min}
-use mathlib.Core.Path.{_≡_, refl, sym, ap₂, subst, _∙_}
-use mathlib.Core.Bool.{Bool, true, false, _&&_, _||_, or-false, or-assoc}
+use mathlib.Core.Path.{_≡_, refl}
+use mathlib.Core.Bool.{Bool, false, _&&_, _||_, or-false, or-assoc}
+use mathlib.Core.List.{List}
 use native.Mathlib.Nat.{min-eq-left}
 use native.Mathlib.Numerals.{add-one}
 use native.Mathlib.Omega.{arith}
-use lib.Dec.{ltb}
-use borrow.Author.Tests.{ltb-false, le-ltb}
+use lib.ListN.{length}
+use borrow.Author.Tests.{le-ltb}
 use Rattle.numbers.specs.Choice.{if_then_else_}
-use Rattle.numbers.proofs.Tests.{by-test}
 use Rattle.forms.specs.declared.Form.{Form}
 use Rattle.forms.specs.declared.Form.the-variants.{Plain, Pausing, IfOpening, ElseMarker, WhileOpening, EndMarker}
-use Rattle.blocks.specs.declared.Fault.{Fault}
 use Rattle.blocks.specs.declared.Walk.{Walk}
 use Rattle.blocks.specs.declared.Walk.the-variants as walk
 use Rattle.forms.specs.Forms.{isElse, isEnd}
-use Rattle.blocks.specs.Blocks.{View, beyond, unreadable, stands, elseAt, andThen, closed, deepest}
-use Rattle.blocks.specs.Blocks.{ifBy, whileBy, stepBy, blockStep, blockBy, stepOf, blockOf, routineOf}
+use Rattle.blocks.specs.Blocks.{View, beyond, unreadable, stands, deepest}
+use Rattle.blocks.specs.Blocks.{ifBy, whileBy, blockStep, blockBy, stepOf, blockOf, routineOf}
 use Rattle.blocks.specs.Parse.{ParsedBlock, ParsedStep, empty, more, plain, pausing, ifOnly, ifElse, loop, blockPauses, stepPauses}
-use Rattle.blocks.proofs.Views.{Stops, stands-within, stands-not-beyond, Says, says-more, says-then, says-closed, else-at}
+use Rattle.blocks.specs.Parse.{Open, Reached}
+use Rattle.blocks.proofs.Views.{Stops, stands-not-beyond}
 
 module _ (at : ℕ → View) (n : ℕ) where
   -- the lowest while whose body doesn't pause, or n where there is none
@@ -40,108 +40,8 @@ module _ (at : ℕ → View) (n : ℕ) where
   lowest-most (more s b) = omega (arith, lowest-most b)
 
   -- n is told where no while is before
-  from-none : {d p e : ℕ} (b : ParsedBlock at d p e) → min n (lowest b) ≡ lowest b
+  pub from-none : {d p e : ℕ} (b : ParsedBlock at d p e) → min n (lowest b) ≡ lowest b
   from-none b = omega (arith, lowest-most b)
-
-  -- What the readers' answers say: a parse up to the place behind, which pauses as told and has the lowest while told.
-  abbrev pub BlockIs : ℕ → ℕ → ℕ → Bool → ℕ → Type 0
-  BlockIs d p q v m = (b : ParsedBlock at d p q) × (blockPauses at b ≡ v) × (lowest b ≡ m)
-
-  -- the rest of a block goes on with what is told of the steps before it
-  abbrev RestIs : ℕ → ℕ → Bool → ℕ → ℕ → Bool → ℕ → Type 0
-  RestIs d p u l q v m = (b : ParsedBlock at d p q) × ((u || blockPauses at b) ≡ v) × (min l (lowest b) ≡ m)
-
-  abbrev pub StepIs : ℕ → ℕ → ℕ → Bool → ℕ → Type 0
-  StepIs d p q v m = (s : ParsedStep at d p q) × (stepPauses at s ≡ v) × (lowestOf s ≡ m)
-
-  abbrev Any : Fault → Type 0
-  Any f = Unit {0}
-
-  abbrev pub StepsAre : ℕ → (Form → ℕ → Walk) → Type 0
-  StepsAre d step = (f : Form) (p : ℕ) → at p ≡ stands f → Says (StepIs d p) Any (step f p)
-
-  stopped : (d p : ℕ) (u : Bool) (l : ℕ) → l ≤ n → RestIs d p u l p u l
-  stopped d p u l i = (empty, or-false u, omega arith)
-
-  onward :
-      (d p q : ℕ) (u v : Bool) (l m : ℕ) → StepIs d p q v m → (r : ℕ) (w : Bool) (o : ℕ) →
-      RestIs d q (u || v) (min l m) r w o → RestIs d p u l r w o
-  onward d p q u v l m s r w o b = (more (s .0) (b .0), rw (s .1) (sym (or-assoc u v _) ∙ b .1), omega arith)
-
-  closed-sound :
-      (P : ℕ → Bool → ℕ → Type 0) (p q : ℕ) (u : Bool) (l : ℕ) →
-      (at q ≡ stands EndMarker → P (suc q) u l) → Says P Any (closed (at q) p q u l)
-  closed-sound P p q u l end = says-closed P Any (at q) p q u l (λ e. tt) (λ e. tt) (λ f e i. tt) end
-
-  module _ (d : ℕ) (step : Form → ℕ → Walk) (S : StepsAre d step) where
-    blockStep-sound :
-        (rest : ℕ → Bool → ℕ → Walk) → ((q : ℕ) (u : Bool) (l : ℕ) → l ≤ n → Says (RestIs d q u l) Any (rest q u l)) →
-        (x : View) (p : ℕ) → at p ≡ x → (u : Bool) (l : ℕ) → l ≤ n → Says (RestIs d p u l) Any (blockStep at n step rest x p u l)
-    blockStep-sound rest R beyond p h u l i = stopped d p u l i
-    blockStep-sound rest R unreadable p h u l i = tt
-    blockStep-sound rest R (stands f) p h u l i =
-        by-test (Says (RestIs d p u l) Any) (isElse f || isEnd f) (λ e. stopped d p u l i)
-        (λ e. says-then (StepIs d p) (RestIs d p u l) Any (step f p) _ (S f p h) (λ q v m s.
-        let w = u || v in
-        let o = min l m in
-        says-more (RestIs d q w o) (RestIs d p u l) Any (rest q w o) (R q w o (omega arith)) (onward d p q u v l m s)))
-
-    blockBy-sound : (k p : ℕ) (u : Bool) (l : ℕ) → l ≤ n → Says (RestIs d p u l) Any (blockBy at n step k p u l)
-    unfolding blockBy
-    blockBy-sound zero p u l i = stopped d p u l i
-    blockBy-sound (suc k) p u l i = blockStep-sound (blockBy at n step k) (blockBy-sound k) (at p) p refl u l i
-
-  module _ (d : ℕ) (block : ℕ → Walk) (B : (q : ℕ) → Says (BlockIs d q) Any (block q)) where
-    -- a block behind a marker or an opening
-    behind : (p : ℕ) → Says (BlockIs d (suc p)) Any (block (p + 1))
-    behind p = rw add-one (B (suc p))
-
-    else-sound :
-        (p q : ℕ) (u : Bool) (l : ℕ) → at p ≡ stands IfOpening → BlockIs d (suc p) q u l → at q ≡ stands ElseMarker →
-        Says (StepIs (suc d) p) Any (andThen (block (q + 1)) (λ r v m. closed (at r) p r (u && v) (min l m)))
-    else-sound p q u l h b k =
-        says-then (BlockIs d (suc q)) (StepIs (suc d) p) Any (block (q + 1)) _ (behind q) (λ r v m c.
-        closed-sound (StepIs (suc d) p) p r (u && v) (min l m) (λ j.
-        (ifElse h (b .0) k (c .0) j, ap₂ _&&_ (b .1) (c .1), ap₂ min (b .2) (c .2))))
-
-    ifBy-sound : (p : ℕ) → at p ≡ stands IfOpening → Says (StepIs (suc d) p) Any (ifBy at n block p)
-    ifBy-sound p h =
-        says-then (BlockIs d (suc p)) (StepIs (suc d) p) Any (block (p + 1)) _ (behind p) (λ q u l b.
-        by-test (Says (StepIs (suc d) p) Any) (elseAt (at q)) (λ e. else-sound p q u l h b (else-at (at q) e))
-        (λ e. closed-sound (StepIs (suc d) p) p q false l (λ k. (ifOnly h (b .0) k, refl, b .2))))
-
-    whileBy-sound : (p : ℕ) → at p ≡ stands WhileOpening → Says (StepIs (suc d) p) Any (whileBy at n block p)
-    whileBy-sound p h =
-        says-then (BlockIs d (suc p)) (StepIs (suc d) p) Any (block (p + 1)) _ (behind p) (λ q u l b.
-        closed-sound (StepIs (suc d) p) p q false (if u then l else p) (λ k. (loop h (b .0) k, refl, rw (b .1, b .2))))
-
-  stepBy-sound :
-      (d : ℕ) (ifs whiles : ℕ → Walk) →
-      ((p : ℕ) → at p ≡ stands IfOpening → Says (StepIs d p) Any (ifs p)) →
-      ((p : ℕ) → at p ≡ stands WhileOpening → Says (StepIs d p) Any (whiles p)) →
-      StepsAre d (stepBy at n ifs whiles)
-  stepBy-sound d ifs whiles I W Plain p h = rw add-one (plain h, refl, refl)
-  stepBy-sound d ifs whiles I W Pausing p h = rw add-one (pausing h, refl, refl)
-  stepBy-sound d ifs whiles I W IfOpening p h = I p h
-  stepBy-sound d ifs whiles I W ElseMarker p h = tt
-  stepBy-sound d ifs whiles I W WhileOpening p h = W p h
-  stepBy-sound d ifs whiles I W EndMarker p h = tt
-
-  blockOf-by : (d : ℕ) → StepsAre d (stepOf at n d) → (p : ℕ) → Says (BlockIs d p) Any (blockOf at n d p)
-  blockOf-by d S p =
-      says-more (RestIs d p false n) (BlockIs d p) Any (blockOf at n d p)
-      (blockBy-sound d (stepOf at n d) S (n - p) p false n (omega arith))
-      (λ q v m b. (b .0, b .1, sym (from-none (b .0)) ∙ b .2))
-
-  pub stepOf-sound : (d : ℕ) → StepsAre d (stepOf at n d)
-  unfolding stepOf
-  stepOf-sound zero = stepBy-sound zero _ _ (λ p h. tt) (λ p h. tt)
-  stepOf-sound (suc d) =
-      let B : (q : ℕ) → Says (BlockIs d q) Any (blockOf at n d q) = blockOf-by d (stepOf-sound d) in
-      stepBy-sound (suc d) _ _ (ifBy-sound d (blockOf at n d) B) (whileBy-sound d (blockOf at n d) B)
-
-  pub blockOf-sound : (d p : ℕ) → Says (BlockIs d p) Any (blockOf at n d p)
-  blockOf-sound d = blockOf-by d (stepOf-sound d)
 
   mutual
     pub block-goes : {d p e : ℕ} → ParsedBlock at d p e → p ≤ e
@@ -154,6 +54,22 @@ module _ (at : ℕ → View) (n : ℕ) where
     step-goes (ifOnly h b k) = omega (arith, block-goes b)
     step-goes (ifElse h b k c j) = omega (arith, block-goes b, block-goes c)
     step-goes (loop h b k) = omega (arith, block-goes b)
+
+  -- what is parsed is reached, with the openings around it
+  mutual
+    pub block-reached :
+        {os : List Open} {d p e : ℕ} → ParsedBlock at d p e → Reached at os p → length os + d ≤ deepest → Reached at os e
+    block-reached empty r l = r
+    block-reached (more s b) r l = block-reached b (step-reached s r l) l
+
+    pub step-reached :
+        {os : List Open} {d p e : ℕ} → ParsedStep at d p e → Reached at os p → length os + d ≤ deepest → Reached at os e
+    step-reached (plain h) r l = Reached.plain r h
+    step-reached (pausing h) r l = Reached.pausing r h
+    step-reached (ifOnly h b k) r l = Reached.end (block-reached b (Reached.if r h (omega arith)) (omega arith)) k
+    step-reached (ifElse h b k c j) r l =
+        Reached.end (block-reached c (Reached.else (block-reached b (Reached.if r h (omega arith)) (omega arith)) k) (omega arith)) j
+    step-reached (loop h b k) r l = Reached.end (block-reached b (Reached.while r h (omega arith)) (omega arith)) k
 
   -- the form of a step's first place
   abbrev stepForm : {d p e : ℕ} → ParsedStep at d p e → Form
@@ -218,16 +134,6 @@ module _ (at : ℕ → View) (n : ℕ) where
         whileBy at n block p ≡ walk.Past (suc q) false (if u then l else p)
     loop-read p q u l b k = rw (add-one p, b, k, add-one q)
 
-  plain-read : (d p : ℕ) → stepOf at n d Plain p ≡ walk.Past (suc p) false n
-  unfolding stepOf
-  plain-read zero p = rw (add-one p)
-  plain-read (suc d) p = rw (add-one p)
-
-  pausing-read : (d p : ℕ) → stepOf at n d Pausing p ≡ walk.Past (suc p) true n
-  unfolding stepOf
-  pausing-read zero p = rw (add-one p)
-  pausing-read (suc d) p = rw (add-one p)
-
   module _ (out : (p : ℕ) → n ≤ p → at p ≡ beyond) where
     -- a block before which no while is told
     whole :
@@ -249,8 +155,10 @@ module _ (at : ℕ → View) (n : ℕ) where
 
       pub step-complete :
           {d p e : ℕ} (s : ParsedStep at d p e) → stepOf at n d (stepForm s) p ≡ walk.Past e (stepPauses at s) (lowestOf s)
-      step-complete {d} {p} (plain h) = plain-read d p
-      step-complete {d} {p} (pausing h) = pausing-read d p
+      step-complete (plain {d = zero} {p = p} h) = rw (add-one p)
+      step-complete (plain {d = suc d} {p = p} h) = rw (add-one p)
+      step-complete (pausing {d = zero} {p = p} h) = rw (add-one p)
+      step-complete (pausing {d = suc d} {p = p} h) = rw (add-one p)
       step-complete (ifOnly {d = d} {p = p} {q = q} h b k) =
           ifOnly-read (blockOf at n d) p q _ _
           (whole b (block-complete b (rw k) (n - suc p) (omega arith) false n (omega arith))) k
@@ -261,34 +169,6 @@ module _ (at : ℕ → View) (n : ℕ) where
       step-complete (loop {d = d} {p = p} {q = q} h b k) =
           loop-read (blockOf at n d) p q _ _
           (whole b (block-complete b (rw k) (n - suc p) (omega arith) false n (omega arith))) k
-
-    mutual
-      block-within : {d p e : ℕ} → ParsedBlock at d p e → p ≤ n → e ≤ n
-      block-within empty h = h
-      block-within (more s b) h = block-within b (step-within s)
-
-      step-within : {d p e : ℕ} → ParsedStep at d p e → e ≤ n
-      step-within (plain {p = p} h) = stands-within at n out p h
-      step-within (pausing {p = p} h) = stands-within at n out p h
-      step-within (ifOnly {q = q} h b k) = stands-within at n out q k
-      step-within (ifElse {r = r} h b k c j) = stands-within at n out r j
-      step-within (loop {q = q} h b k) = stands-within at n out q k
-
-    abbrev RoutineIs : ℕ → Bool → ℕ → Type 0
-    RoutineIs q u l = (q ≡ n) × ((b : ParsedBlock at deepest 0 n) × (blockPauses at b ≡ u) × (lowest b ≡ l))
-
-    routine-says : Says RoutineIs Any (routineOf at n)
-    unfolding routineOf
-    routine-says =
-        says-then (BlockIs deepest 0) RoutineIs Any (blockOf at n deepest 0) _ (blockOf-sound deepest 0) (λ q u l b.
-        by-test (Says RoutineIs Any) (ltb q n) (λ e. tt) (λ e.
-        let k : q ≡ n = omega (arith, ltb-false q n e, block-within (b .0) (omega arith)) in
-        (k, subst (λ x. BlockIs deepest 0 x u l) k b)))
-
-    pub routine-sound :
-        (q : ℕ) (u : Bool) (l : ℕ) → routineOf at n ≡ walk.Past q u l →
-        (q ≡ n) × ((b : ParsedBlock at deepest 0 n) × (blockPauses at b ≡ u) × (lowest b ≡ l))
-    routine-sound q u l e = subst (Says RoutineIs Any) e routine-says
 
     pub routine-complete : (b : ParsedBlock at deepest 0 n) → routineOf at n ≡ walk.Past n (blockPauses at b) (lowest b)
     unfolding routineOf

@@ -1,26 +1,24 @@
--- The places of a routine and what is said of a reader's answer: ground that soundness and the faults share.
+-- The places of a routine, where a block stops, and what is said of a reader's answer: ground that the other files share.
 -- An answer is spoken of by a claim on what is past and a claim on the fault; the readers' parts carry such claims along.
-use Prim.Native.Nat.{ℕ, suc, _≤_, _<_}
-use mathlib.Core.Path.{_≡_, refl, ap}
-use mathlib.Core.Bool.{Bool, true, false, _||_}
+use Prim.Native.Nat.{ℕ, _≤_, _<_}
+use mathlib.Core.Path.{_≡_, refl}
+use mathlib.Core.Bool.{Bool, true, _||_}
 use mathlib.Core.List.{List}
 use native.Mathlib.Decide.{decLt}
-use native.Mathlib.Numerals.{add-one}
 use native.Mathlib.Omega.{arith}
 use borrow.Author.Tests.{lt-ltb, le-ltb}
-use Rattle.numbers.proofs.Tests.{by-test}
+use Rattle.numbers.proofs.Tests.{clash}
 use Rattle.kinds.specs.declared.Step.{Step}
 use Rattle.kinds.specs.declared.Step.the-variants as step
 use Rattle.kinds.specs.declared.Counts.{Counts}
 use Rattle.forms.specs.declared.Form.{Form}
 use Rattle.forms.specs.declared.Form.the-variants.{Plain, Pausing, IfOpening, ElseMarker, WhileOpening, EndMarker}
 use Rattle.blocks.specs.declared.Fault.{Fault}
-use Rattle.blocks.specs.declared.Fault.the-variants.{Unreadable, Misnested}
 use Rattle.blocks.specs.declared.Walk.{Walk}
 use Rattle.blocks.specs.declared.Walk.the-variants as walk
 use Rattle.kinds.specs.Steps.{stepAt}
 use Rattle.forms.specs.Forms.{isElse, isEnd}
-use Rattle.blocks.specs.Blocks.{View, beyond, unreadable, stands, viewAt, seen, elseAt, andThen, closed}
+use Rattle.blocks.specs.Blocks.{View, beyond, unreadable, stands, viewAt, seen, andThen}
 
 pub stands-not-beyond : {x : View} {f : Form} → x ≡ stands f → x ≡ beyond → ⊥
 stands-not-beyond h k = let z : _≡_ {A = ℕ} 0 1 = cc in omega arith
@@ -37,6 +35,19 @@ abbrev pub Stops : View → Type 0
 Stops beyond = Unit {0}
 Stops unreadable = ⊥
 Stops (stands f) = (isElse f || isEnd f) ≡ true
+
+-- so a claim on where it stops is shown behind the last step, at an else and at an end
+pub by-stop :
+    (P : View → Type 0) (x : View) → Stops x →
+    (x ≡ beyond → P beyond) → (x ≡ stands ElseMarker → P (stands ElseMarker)) → (x ≡ stands EndMarker → P (stands EndMarker)) → P x
+by-stop P beyond t a b c = a refl
+by-stop P unreadable t a b c = absurd t
+by-stop P (stands Plain) t a b c = clash t refl
+by-stop P (stands Pausing) t a b c = clash t refl
+by-stop P (stands IfOpening) t a b c = clash t refl
+by-stop P (stands ElseMarker) t a b c = b refl
+by-stop P (stands WhileOpening) t a b c = clash t refl
+by-stop P (stands EndMarker) t a b c = c refl
 
 module _ (counts : Counts) (part : List ℕ) (n p : ℕ) where
   pub view-beyond : n ≤ p → viewAt counts part n p ≡ beyond
@@ -77,34 +88,7 @@ module _ (P Q : ℕ → Bool → ℕ → Type 0) (F : Fault → Type 0) where
   says-then (walk.Past q u l) next h k = k q u l h
   says-then (walk.Fault f) next h k = h
 
-pub end-marker : (f : Form) → isEnd f ≡ true → f ≡ EndMarker
-end-marker Plain e = cc
-end-marker Pausing e = cc
-end-marker IfOpening e = cc
-end-marker ElseMarker e = cc
-end-marker WhileOpening e = cc
-end-marker EndMarker e = cc
-
-pub else-marker : (f : Form) → isElse f ≡ true → f ≡ ElseMarker
-else-marker Plain e = cc
-else-marker Pausing e = cc
-else-marker IfOpening e = cc
-else-marker ElseMarker e = cc
-else-marker WhileOpening e = cc
-else-marker EndMarker e = cc
-
-pub else-at : (x : View) → elseAt x ≡ true → x ≡ stands ElseMarker
-else-at beyond e = cc
-else-at unreadable e = cc
-else-at (stands f) e = ap stands (else-marker f e)
-
--- where a step that holds blocks ends
-pub says-closed :
-    (P : ℕ → Bool → ℕ → Type 0) (F : Fault → Type 0) (x : View) (p q : ℕ) (u : Bool) (l : ℕ) →
-    (x ≡ beyond → F (Misnested p)) → (x ≡ unreadable → F (Unreadable q)) →
-    ((f : Form) → x ≡ stands f → isEnd f ≡ false → F (Misnested q)) →
-    (x ≡ stands EndMarker → P (suc q) u l) → Says P F (closed x p q u l)
-says-closed P F beyond p q u l a b c d = a refl
-says-closed P F unreadable p q u l a b c d = b refl
-says-closed P F (stands f) p q u l a b c d =
-    by-test (Says P F) (isEnd f) (λ e. rw add-one (d (rw (end-marker f e)))) (λ e. c f refl e)
+pub says-fault :
+    (P : ℕ → Bool → ℕ → Type 0) (F G : Fault → Type 0) (w : Walk) → Says P F w → ((f : Fault) → F f → G f) → Says P G w
+says-fault P F G (walk.Past q u l) h k = h
+says-fault P F G (walk.Fault f) h k = k f h

@@ -31,8 +31,8 @@ use Rattle.directory.proofs.Directory.{routine-within}
 use Rattle.kinds.proofs.Readable.{readable-step, step-readable}
 use Rattle.book.proofs.Parts.{step-of-book, step-routine}
 use Rattle.blocks.proofs.Views.{view-beyond, view-seen, view-inside}
-use Rattle.blocks.proofs.Parses.{routine-sound, routine-complete, lowest}
-use Rattle.blocks.proofs.Faults.{misnested, unreadable-at}
+use Rattle.blocks.proofs.Parses.{routine-complete, lowest}
+use Rattle.blocks.proofs.Sound.{routine-sound, misnested, unreadable-at}
 use Rattle.blocks.proofs.Order.{misplaced-fault}
 use Rattle.blocks.proofs.Whiles.{LowestAt, lowest-none, pausing-lowest, lowest-at, lowest-within, lowest-is}
 

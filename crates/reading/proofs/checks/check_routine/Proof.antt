@@ -21,7 +21,7 @@ use Rattle.blocks.specs.Blocks.{viewAt, routineOf}
 use Rattle.book.specs.Book.{routineWalk, nestingOf, pausingOf, nestingAt, pausingAt}
 use Rattle.book.proofs.Decided.{directed}
 use Rattle.directory.proofs.Directory.{routine-start}
-use Rattle.blocks.proofs.Faults.{misnested, unreadable-at}
+use Rattle.blocks.proofs.Sound.{misnested, unreadable-at}
 use Rattle.book.proofs.Laid.{laid-out}
 use Rattle.numbers.proofs.Parts.{rest-from}
 use Rattle.blocks.proofs.Views.{view-beyond, view-inside}
