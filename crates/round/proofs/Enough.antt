@@ -109,7 +109,8 @@ module _ (book : List ℕ) (a : Accepted book) where
     few-listed =
         let start = at-start-sound book g a f in
         let few = start .fits .lengthsInRange .0 in
-        omega (arith, entries-length (atStart g .game .listed) (fit-lists book (atStart g .game) (start .fits) .0) (start .fits .sized .listed))
+        let right = fit-lists book (atStart g .game) (start .fits) .0 in
+        omega (arith, entries-length (atStart g .game .listed) right (start .fits .sized .listed))
 
     passes-enough : RoundEnds book mostPasses (listedIn g) (atStart g)
     unfolding atStart

@@ -71,7 +71,8 @@ module _ (book : List ℕ) (a : Accepted book) (g : Game) (f : Fits book g) (r :
       (Claim : State → List Happening → State → Type 0)
       (both : (s u v : State) (b c : List Happening) → Claim s b u → Claim u c v → Claim s (b ++ c) v)
       (others :
-      (s u : State) (told : List Happening) → SameStanding (routineAt (u .game) r) (routineAt (s .game) r) → StillThere s u → Claim s told u)
+      (s u : State) (told : List Happening) → SameStanding (routineAt (u .game) r) (routineAt (s .game) r) → StillThere s u →
+      Claim s told u)
       (own : (s : State) → r < routinesOf book → Sound book s → Claim s (turn book r s .told) (turn book r s .state))
     where
       each-turn :

@@ -78,7 +78,8 @@ module _ (book : List ℕ) (g : Game) (range : CountsInRange book) (f : Fits boo
       (λ n.
       let same = each-other inStage1 (startsOf g) (g .routines) r n in
       let before : UnderWay (routineAt g r .stage) = subst (λ (x : Routine). UnderWay (x .stage)) same way in
-      in-first (λ q. r ≡ q) listed (startsOf g) (in-among (g .listed) (fit-lists book g f .0) (f .sized .listed) r (f .listedStages r l before)))
+      in-first (λ q. r ≡ q) listed (startsOf g)
+      (in-among (g .listed) (fit-lists book g f .0) (f .sized .listed) r (f .listedStages r l before)))
       (among-or r (startsOf g)))
 
   first-range : (r : ℕ) → r < routinesOf book → getD (first g) r blank .stage ≤ stopped

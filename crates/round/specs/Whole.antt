@@ -1,8 +1,9 @@
--- What the history of a round says is held against the round. Carried out again in order, the steps told as completed lead each routine that
--- plays from where it stood to where its last turn ends, so none is left out, and give the counters and numbers at the round's end; of the
--- other routines nothing is told. There are as many signals as signal steps, as many marks as mark steps, an end for each routine that ended,
--- and as many misses as turns that ended because their thing was missing; which signal or mark a step gives is not said here. A try is of what its step asks for, and finds it exactly if that was there from the start or
--- came before; a step of op 8, 10 or 12 is completed only by finding what it asks for.
+-- What the history of a round says is held against the round. Carried out again in order, the steps told as completed lead each routine
+-- that plays from where it stood to where its last turn ends, so none is left out, and give the counters and numbers at the round's end;
+-- of the other routines nothing is told. There are as many signals as signal steps, as many marks as mark steps, an end for each routine
+-- that ended, and as many misses as turns that ended because their thing was missing; which signal or mark a step gives is not said here.
+-- A try is of what its step asks for, and finds it exactly if that was there from the start or came before; a step of op 8, 10 or 12 is
+-- completed only by finding what it asks for.
 use Prim.Native.Nat.{ℕ, _<_}
 use mathlib.Core.Path.{_≡_}
 use mathlib.Core.Bool.{Bool, true, false}
