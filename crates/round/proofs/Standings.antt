@@ -1,6 +1,6 @@
 -- How each routine stands in a state of a round: its stage, whether it is suspended, and its position. These alone decide whether it takes
--- a turn and where the turn begins, so a routine that stands the same in two states has been left alone between them. And that what is
--- there in one state is there in another.
+-- a turn and where the turn begins, so a routine that stands the same in two states has been left alone between them. Last stands that
+-- what is there in one state is still there in another.
 use Prim.Native.Nat.{ℕ}
 use mathlib.Core.Path.{_≡_, refl, _∙_}
 use mathlib.Core.Bool.{true}
