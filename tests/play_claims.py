@@ -250,7 +250,7 @@ use Rattle.setup.specs.SetUp.{unlessRefused, newGame, setUp}
 use Rattle.orders.specs.Orders.{fitVerdict, numberVerdict, orderVerdict, obeyed, ordered}
 use Rattle.round.specs.declared.Ending.the-variants.{Ended, Rested, Missed, Continued}
 use Rattle.round.specs.Actions.{atStart}
-use Rattle.round.specs.History.{stepsIn, howMany}
+use Rattle.round.specs.Counting.{stepsIn, howMany}
 use Rattle.round.specs.Rounds.{Turn, passedOver, took}
 use Rattle.round.specs.Rounds as rounds
 use Rattle.round.specs.Answers.{numbersPerMark, spaceVerdict, numbersVerdict, roundVerdict, Answer, turnedDown, playedOut, answer}
@@ -519,7 +519,7 @@ use Rattle.round.specs.Actions.{kept, each, atStart}
 use Rattle.round.specs.Jumps.{pastPartner, openingBefore, fromEnd}
 use Rattle.round.specs.Ticks.{waitsFor, tickOf, effectOn}
 use Rattle.round.specs.Rounds.{allDone}
-use Rattle.round.specs.History.{sumOver, howMany}
+use Rattle.round.specs.Counting.{sumOver, howMany}
 use Rattle.round.specs.Answers.{marksIn, written}
 use Rattle.round.specs.Evaluation.{firstSteps, book-verdict, ticksBy, passBy, instantBy}
 use Rattle.round.specs.Script.{Command, Book, Read, Show, SetUp, Order, Round, Poke, PokeCounter, Log, Facts, Dump, Lines}

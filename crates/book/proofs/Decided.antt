@@ -19,7 +19,7 @@ use Rattle.blocks.specs.declared.Walk.the-variants as walk
 use Rattle.verdicts.specs.Verdicts.{accepted, refused, _orElse_, unless, firstRefusal}
 use Rattle.layout.specs.Layout.{headerBytes, countsFit, layoutFits, layoutVerdict, countsOf}
 use Rattle.layout.specs.Layout.{routinesOf, stepsOf}
-use Rattle.directory.specs.Directory.{firstStep, stepCount, stepsBefore, Entries, entryVerdict, directoryVerdict, routinePart}
+use Rattle.directory.specs.Directory.{firstStep, stepCount, stepsBefore, EntriesFollow, entryVerdict, directoryVerdict, routinePart}
 use Rattle.kinds.specs.Steps.{stepAt}
 use Rattle.blocks.specs.Blocks.{beyond, unreadable, seen}
 use Rattle.book.specs.Book.{stepsPart, viewOf, routineWalk, stepVerdict, nestingOf, nestingAt, pausingAt}
@@ -74,7 +74,7 @@ module _ (s : List ℕ) where
         total = equal (stepsBefore s (routinesOf s)) (stepsOf s) (routinesOf s) (both .1);
       }
 
-  past-entries : Entries s (routinesOf s) → {v : Verdict} → (firstRefusal (entryVerdict s) (routinesOf s) 0 orElse v) ≡ v
+  past-entries : EntriesFollow s (routinesOf s) → {v : Verdict} → (firstRefusal (entryVerdict s) (routinesOf s) 0 orElse v) ≡ v
   past-entries entries = orElse-past _ _ (all-clear entries-decided entries)
 
   pub directory-clear : DirectoryRight s → directoryVerdict s ≡ accepted
@@ -82,12 +82,12 @@ module _ (s : List ℕ) where
   directory-clear d = past-entries (d .entries) ∙ rw (eq-eqb _ _ (d .total))
 
   pub total-told :
-      Entries s (routinesOf s) → (stepsBefore s (routinesOf s) ≡ stepsOf s → ⊥) → directoryVerdict s ≡ refused 4 (routinesOf s)
+      EntriesFollow s (routinesOf s) → (stepsBefore s (routinesOf s) ≡ stepsOf s → ⊥) → directoryVerdict s ≡ refused 4 (routinesOf s)
   unfolding directoryVerdict
   total-told entries n = past-entries entries ∙ rw (ne-eqb _ _ n)
 
   pub entry-told :
-      (r : ℕ) → r < routinesOf s → Entries s r → (firstStep s r ≡ stepsBefore s r → ⊥) → directoryVerdict s ≡ refused 4 r
+      (r : ℕ) → r < routinesOf s → EntriesFollow s r → (firstStep s r ≡ stepsBefore s r → ⊥) → directoryVerdict s ≡ refused 4 r
   unfolding directoryVerdict
   entry-told r l before n = orElse-told _ _ (first-told entries-decided r l before (entry-wrong r n))
 

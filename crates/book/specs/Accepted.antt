@@ -6,7 +6,7 @@ use lib.ListN.{length}
 use Rattle.numbers.specs.Numbers.{halfAt}
 use Rattle.layout.specs.Layout.{headerBytes, mostRoutines, mostSteps, mostSignals, mostCounters, routinesOf, stepsOf, signalsOf, countsOf}
 use Rattle.layout.specs.Layout.{countersOf, stepsFrom}
-use Rattle.directory.specs.Directory.{stepCount, stepsBefore, Entries}
+use Rattle.directory.specs.Directory.{stepCount, stepsBefore, EntriesFollow}
 use Rattle.kinds.specs.Steps.{stepBytes, Readable, opAt, fieldA, fieldB, fieldN}
 use Rattle.blocks.specs.Blocks.{deepest}
 use Rattle.book.specs.Book.{stepsPart, viewOf}
@@ -34,20 +34,22 @@ pub record LaidOut (s : List ℕ) : Type 0 where
 
 -- "entries follow each other from step 0 without gaps and end at S; a count may be 0"
 pub record DirectoryRight (s : List ℕ) : Type 0 where
-  pub entries : Entries s (routinesOf s)
+  pub entries : EntriesFollow s (routinesOf s)
   pub total : stepsBefore s (routinesOf s) ≡ stepsOf s
 
+-- step i of the book is "one of the 21 kinds", its fields in range, with no stray field
 abbrev pub ReadableStep : List ℕ → ℕ → Type 0
 ReadableStep s i = Readable (countsOf s) (opAt (stepsPart s) i) (fieldA (stepsPart s) i) (fieldB (stepsPart s) i) (fieldN (stepsPart s) i)
 
--- the first n steps are each "one of the 21 kinds", their fields in range, with no stray field
+-- the first n steps are so
 abbrev pub AllReadable : List ℕ → ℕ → Type 0
 AllReadable s n = (i : ℕ) → i < n → ReadableStep s i
 
--- "Nesting goes to depth 16.": routine r nests, and the first n do
+-- "Nesting goes to depth 16.": the steps of routine r are one block, every opening closed and every marker in place
 abbrev pub Nests : List ℕ → ℕ → Type 0
 Nests s r = ParsedBlock (viewOf s r) deepest 0 (stepCount s r)
 
+-- the first n routines nest
 abbrev pub AllNest : List ℕ → ℕ → Type 0
 AllNest s n = (r : ℕ) → r < n → Nests s r
 

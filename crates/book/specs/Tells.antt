@@ -6,7 +6,7 @@ use mathlib.Core.Bool.{true, false}
 use mathlib.Core.List.{List}
 use lib.ListN.{length}
 use Rattle.layout.specs.Layout.{headerBytes, routinesOf, stepsOf}
-use Rattle.directory.specs.Directory.{firstStep, stepsBefore, Entries}
+use Rattle.directory.specs.Directory.{firstStep, stepsBefore, EntriesFollow}
 use Rattle.book.specs.Book.{viewOf}
 use Rattle.blocks.specs.Parse.{EachWhile, SomeWhile, WhilesPause, Misplaced}
 use Rattle.book.specs.Accepted.{CountsInRange, OffsetsRight, LaidOut, DirectoryRight}
@@ -24,11 +24,11 @@ pub data Tells (s : List ℕ) : ℕ → ℕ → Type 0 where
   -- 4. "place is the first routine whose first step isn't the sum of the counts before it"
   entry :
       {r : ℕ} →
-      LaidOut s → r < routinesOf s → Entries s r → (firstStep s r ≡ stepsBefore s r → ⊥) →
+      LaidOut s → r < routinesOf s → EntriesFollow s r → (firstStep s r ≡ stepsBefore s r → ⊥) →
       Tells s 4 r
   -- "or R if only the total isn't S"
   total :
-      LaidOut s → Entries s (routinesOf s) → (stepsBefore s (routinesOf s) ≡ stepsOf s → ⊥) →
+      LaidOut s → EntriesFollow s (routinesOf s) → (stepsBefore s (routinesOf s) ≡ stepsOf s → ⊥) →
       Tells s 4 (routinesOf s)
   -- 5. "place is the first such step of the book"
   step :

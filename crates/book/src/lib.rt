@@ -1,2 +1,2 @@
-// Books of routines: which refusal a book is told, what an accepted one is, and the theory that joins the two. Document 01, "The book" and
-// "Turned down because of the input". There is no code here; `reading` reads books.
+// Books of routines: which refusal a book is told, what showing a routine gives, what an accepted book is, and the theory of these.
+// Document 01, "The book" and "Turned down because of the input". There is no code here; `reading` reads books.

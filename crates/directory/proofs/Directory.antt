@@ -11,7 +11,7 @@ use Rattle.numbers.specs.Numbers.{halfAt}
 use Rattle.numbers.specs.Below.{sumBelow}
 use Rattle.kinds.specs.Steps.{stepBytes}
 use Rattle.layout.specs.Layout.{headerBytes, entryBytes, routinesOf, stepsOf, stepsFrom}
-use Rattle.directory.specs.Directory.{firstStep, stepCount, stepsBefore, Entries, routineFrom, routineStepsFrom}
+use Rattle.directory.specs.Directory.{firstStep, stepCount, stepsBefore, EntriesFollow, routineFrom, routineStepsFrom}
 
 -- the numbers of routine r's entry, in a book without bytes there
 pub entry-missing : (s : List ℕ) {r : ℕ} (k : ℕ) → length s / entryBytes ≤ r → halfAt s (headerBytes + k + entryBytes * r) ≡ 0
@@ -34,7 +34,7 @@ module _ (s : List ℕ) where
         | no n ↦ omega (arith, before-grows a b (omega arith))
       ]
 
-  module _ (entries : Entries s (routinesOf s)) (total : stepsBefore s (routinesOf s) ≡ stepsOf s) where
+  module _ (entries : EntriesFollow s (routinesOf s)) (total : stepsBefore s (routinesOf s) ≡ stepsOf s) where
     pub routine-within : (r : ℕ) → r < routinesOf s → firstStep s r + stepCount s r ≤ stepsOf s
     unfolding stepsBefore sumBelow
     routine-within r h = omega (arith, entries r h, before-grows (suc r) (routinesOf s) h)

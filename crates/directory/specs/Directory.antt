@@ -24,9 +24,9 @@ stepCount s r = halfAt s (headerBytes + 2 + entryBytes * r)
 unfoldable pub stepsBefore : List ℕ → ℕ → ℕ
 stepsBefore s r = sumBelow (stepCount s) r
 
--- "entries follow each other from step 0 without gaps and end at S; a count may be 0": the first n do
-abbrev pub Entries : List ℕ → ℕ → Type 0
-Entries s n = (r : ℕ) → r < n → firstStep s r ≡ stepsBefore s r
+-- "entries follow each other from step 0 without gaps": the first n do, each beginning at the sum of the counts before it
+abbrev pub EntriesFollow : List ℕ → ℕ → Type 0
+EntriesFollow s n = (r : ℕ) → r < n → firstStep s r ≡ stepsBefore s r
 
 -- 4. "place is the first routine whose first step isn't the sum of the counts before it, or R if only the total isn't S"
 abbrev pub entryVerdict : List ℕ → ℕ → Verdict

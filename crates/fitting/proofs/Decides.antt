@@ -11,7 +11,7 @@ use lib.Dec.{T, leb}
 use lib.ListN.{getD}
 use lib.IntN.{ℤ, pos, negsuc}
 use lib.Signed.{_≤ℤ_, leZ}
-use Rattle.numbers.specs.Numbers.{lowestCounter, highestCounter, InRange, isWithin}
+use Rattle.numbers.specs.Numbers.{lowestCounter, highestCounter, CounterInRange, isWithin}
 use Rattle.numbers.proofs.Tests.{clash, and-both}
 use Rattle.kinds.specs.declared.Counts.{Counts}
 use Rattle.layout.specs.Layout.{mostRoutines, mostSignals, mostCounters, routinesOf, countsOf}
@@ -51,7 +51,7 @@ only-zero (negsuc n) h = clash h refl
 
 -- of the counters that are kept, those below C are in range and the others are 0
 abbrev pub CounterRight : ℕ → ℕ → ℤ → Type 0
-CounterRight counters c v = (c < counters → InRange v) × (counters ≤ c → v ≡ pos 0)
+CounterRight counters c v = (c < counters → CounterInRange v) × (counters ≤ c → v ≡ pos 0)
 
 abbrev CountersRight : List ℤ → ℕ → Type 0
 CountersRight values counters = (c : ℕ) → c < mostCounters → CounterRight counters c (getD values c (pos 0))

@@ -8,7 +8,7 @@ use mathlib.Core.Logic.{_↔_, _⊎_, inl, inr, ⊎-elim, Iff·rfl, Iff·trans}
 use native.Mathlib.Omega.{arith}
 use Rattle.numbers.proofs.Tests.{clash}
 use Rattle.forms.specs.Timed.{timedCount}
-use Rattle.forms.specs.Timed.{LeftOf}
+use Rattle.forms.specs.Timed.{MayBeLeft}
 use Rattle.forms.proofs.Timed.{timed}
 use Rattle.directory.specs.Directory.{stepCount, routineStep}
 use Rattle.game.specs.declared.Routine.{Routine}
@@ -30,7 +30,7 @@ pub record RoutineRight (s : List ℕ) (r : ℕ) (x : Routine) (L S : Type 0) : 
   pub listed : UnderWay (x .stage) → L
   pub unlisted : NotUnderWay (x .stage) → L → ⊥
   pub starting : S → x .stage ≡ notStarted
-  pub begun : x .begun ≡ true → LeftOf (routineStep s r (x .place)) (x .left)
+  pub begun : x .begun ≡ true → MayBeLeft (routineStep s r (x .place)) (x .left)
   pub notBegun : x .begun ≡ false → x .left ≡ 0
 
 apart : (k : ℕ) → UnderWay k → NotUnderWay k → ⊥

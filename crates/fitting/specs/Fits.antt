@@ -5,9 +5,9 @@ use mathlib.Core.Bool.{true, false}
 use mathlib.Core.List.{List}
 use mathlib.Core.Logic.{_⊎_}
 use lib.IntN.{pos}
-use Rattle.numbers.specs.Numbers.{InRange}
+use Rattle.numbers.specs.Numbers.{CounterInRange}
 use Rattle.kinds.specs.declared.Step.{Step}
-use Rattle.forms.specs.Timed.{LeftOf}
+use Rattle.forms.specs.Timed.{MayBeLeft}
 use Rattle.layout.specs.Layout.{mostRoutines, mostSignals, mostCounters, routinesOf, signalsOf, countersOf, countsOf}
 use Rattle.directory.specs.Directory.{stepCount, routineStep}
 use Rattle.lines.specs.declared.Line.{Line}
@@ -39,7 +39,7 @@ pub record Fits (s : List ℕ) (g : Game) : Type 0 where
   -- a list has room for 64 entries, and an entry is one of the R routines
   pub stagesInRange : (r : ℕ) → r < routinesOf s → routineAt g r .stage ≤ stopped
   pub placesInRange : (r : ℕ) → r < routinesOf s → routineAt g r .place ≤ stepCount s r
-  pub countersInRange : (c : ℕ) → c < countersOf s → InRange (counterAt g c)
+  pub countersInRange : (c : ℕ) → c < countersOf s → CounterInRange (counterAt g c)
   pub lengthsInRange : BothLists g (λ l. l .len ≤ mostEntries)
   pub entriesInRange : BothLists g (λ l. (i : ℕ) → i < l .len → itemAt l i < routinesOf s)
   -- "routines in stages 1 and 2 are listed, those in 0 and 4 are not, and 3 may be either"
@@ -52,7 +52,7 @@ pub record Fits (s : List ℕ) (g : Game) : Type 0 where
   -- "those to start are in stage 0"
   pub startStages : (r : ℕ) → In (g .starting) r → routineAt g r .stage ≡ notStarted
   -- "Begun is set only at a step of op 7, 9 or 11, and the count left then lies from 0 to n − 1; otherwise it is 0."
-  pub leftWhereBegun : (r : ℕ) → r < routinesOf s → routineAt g r .begun ≡ true → LeftOf (stepHere s g r) (routineAt g r .left)
+  pub leftWhereBegun : (r : ℕ) → r < routinesOf s → routineAt g r .begun ≡ true → MayBeLeft (stepHere s g r) (routineAt g r .left)
   pub leftElsewhere : (r : ℕ) → r < routinesOf s → routineAt g r .begun ≡ false → routineAt g r .left ≡ 0
   -- the arrays are as long as their types say, as in every game that a program holds
   pub sized : Sized g

@@ -12,9 +12,10 @@ pub data Timed : Step → ℕ → Type 0 where
   waitFor : {e n : ℕ} → Timed (step.Kind (WaitFor e n)) n
   joinFor : {r n : ℕ} → Timed (step.Kind (JoinFor r n)) n
 
--- "the count left then lies from 0 to n − 1": so much may be left at this step
-abbrev pub LeftOf : Step → ℕ → Type 0
-LeftOf st left = (n : ℕ) × Timed st n × (left < n)
+-- "Begun is set only at a step of op 7, 9 or 11, and the count left then lies from 0 to n − 1": this step is one, and so much may be left
+-- of its n
+abbrev pub MayBeLeft : Step → ℕ → Type 0
+MayBeLeft st left = (n : ℕ) × Timed st n × (left < n)
 
 -- the n of a timed kind; 0 for any other
 abbrev pub kindCount : Kind → ℕ

@@ -15,12 +15,13 @@ use Rattle.hex.specs.declared.Bytes.the-variants as bytes
 abbrev pub longest : ℕ
 longest = 16384
 
-abbrev pub digitAt : List ℕ → ℕ → Bool
-digitAt word i = leb (digitOf (getD word i 0)) 15
+-- the byte at place i is a hexadecimal digit
+abbrev pub isDigitAt : List ℕ → ℕ → Bool
+isDigitAt word i = leb (digitOf (getD word i 0)) 15
 
 -- a word stands for bytes, two digits each
 unfoldable pub isHex : List ℕ → Bool
-isHex word = ltb 0 (length word) && eqb (length word % 2) 0 && leb (length word / 2) longest && allBelow (length word) (digitAt word)
+isHex word = ltb 0 (length word) && eqb (length word % 2) 0 && leb (length word / 2) longest && allBelow (length word) (isDigitAt word)
 
 -- byte i of those that a word stands for
 abbrev pub byteOf : List ℕ → ℕ → ℕ

@@ -18,7 +18,7 @@ adds : (v n : ℤ) (high low : Bool) → ltZ highestCounter (v +ℤ n) ≡ high 
     AddsUp v n (if high then highestCounter else if low then lowestCounter else v +ℤ n)
 adds v n true low h l = above (passes h)
 adds v n false true h l = below (passes l)
-adds v n false false h l = within (fails l) (fails h)
+adds v n false false h l = within (fails l, fails h)
 
 pub adds-up : (v n : ℤ) → AddsUp v n (sumOf v n .sum)
 adds-up v n = adds v n (ltZ highestCounter (v +ℤ n)) (ltZ (v +ℤ n) lowestCounter) refl refl
@@ -36,7 +36,7 @@ low-not-high (pos m) h = absurd (h .lt)
 low-not-high (negsuc m) h = refl
 
 pub adds-up-once : {v n z : ℤ} → AddsUp v n z → z ≡ sumOf v n .sum
-adds-up-once {v} {n} (within lo hi) =
+adds-up-once {v} {n} (within (lo, hi)) =
     rw (not-less (ltZ highestCounter (v +ℤ n)) refl hi, not-less (ltZ (v +ℤ n) lowestCounter) refl lo)
 adds-up-once {v} {n} (above hi) = rw (is-less (ltZ highestCounter (v +ℤ n)) refl hi)
 adds-up-once {v} {n} (below lo) = rw (low-not-high (v +ℤ n) lo, is-less (ltZ (v +ℤ n) lowestCounter) refl lo)

@@ -45,8 +45,9 @@ lowestCounter = negsuc 999999
 abbrev pub highestCounter : ℤ
 highestCounter = pos 1000000
 
-abbrev pub InRange : ℤ → Type 0
-InRange v = (lowestCounter ≤ℤ v) × (v ≤ℤ highestCounter)
+-- a counter's content lies in that range
+abbrev pub CounterInRange : ℤ → Type 0
+CounterInRange v = (lowestCounter ≤ℤ v) × (v ≤ℤ highestCounter)
 
 abbrev pub isWithin : ℤ → ℤ → ℤ → Bool
 isWithin n low high = leZ low n && leZ n high

@@ -18,7 +18,7 @@ use Rattle.game.specs.declared.Game.{Game}
 use Rattle.round.specs.declared.Position.{Position}
 use Rattle.round.specs.declared.Effect.{Effect}
 use Rattle.round.specs.State.{State, Thing, Happening, gave, ended, missing, past, marked, completed}
-use Rattle.round.specs.History.{howMany}
+use Rattle.round.specs.Counting.{howMany}
 use Rattle.round.specs.Rounds.{turn, historyOf}
 use Rattle.round.specs.Answers.{opMark, marksIn}
 use Rattle.round.specs.Tells.{numbersGiven}

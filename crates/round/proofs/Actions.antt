@@ -20,7 +20,7 @@ use Rattle.round.specs.Actions.{kept, each, positionOf, inStage1, inStag
 use Rattle.round.proofs.Along.{All}
 use Rattle.round.proofs.Entries.{all-kept, kept-short, joined-below, joined-short}
 use Rattle.round.proofs.Listing.{entries-same}
-use Rattle.round.specs.History.{Among}
+use Rattle.round.specs.Counting.{Among}
 
 -- what a change of one routine keeps, the same change of several keeps
 pub each-keeps :

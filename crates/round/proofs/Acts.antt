@@ -8,11 +8,11 @@ use lib.Dec.{eqb}
 use lib.ListN.{length}
 use lib.IntN.{ℤ}
 use Rattle.numbers.specs.declared.Sum.{Sum}
-use Rattle.numbers.specs.Numbers.{InRange}
+use Rattle.numbers.specs.Numbers.{CounterInRange}
 use Rattle.kinds.specs.declared.Step.{Step}
 use Rattle.kinds.specs.declared.Counts.{Counts}
 use Rattle.kinds.specs.Steps.{opAt, stepAt}
-use Rattle.forms.specs.Timed.{LeftOf}
+use Rattle.forms.specs.Timed.{MayBeLeft}
 use Rattle.game.specs.Game.{counterAt}
 use Rattle.round.specs.declared.Ending.{Ending}
 use Rattle.round.specs.declared.Ending.the-variants.{Ended, Rested, Missed, Continued}
@@ -31,21 +31,21 @@ use Rattle.round.proofs.Along.{All}
 
 -- each number given is in range, whatever signal it was given with
 abbrev pub NumbersRight : List (ℕ × ℤ) → Type 0
-NumbersRight = All (λ x. InRange (x .1))
+NumbersRight = All (λ x. CounterInRange (x .1))
 
 -- every counter and every number given is in range
 pub record Ranged (s : State) : Type 0 where
-  pub counters : (c : ℕ) → InRange (counterAt (s .game) c)
+  pub counters : (c : ℕ) → CounterInRange (counterAt (s .game) c)
   pub numbers : NumbersRight (s .numbers)
 
 -- an effect on what the book has, which keeps counters and numbers in range
 pub data Right (counts : Counts) (s : State) : Effect → Type 0 where
   nothing : Right counts s Nothing
   mark : {n : ℤ} → Right counts s (Mark n)
-  put : {c : ℕ} {v : ℤ} → c < counts .counters → (Ranged s → InRange v) → Right counts s (Put c v)
-  add : {c : ℕ} {v : Sum} → c < counts .counters → InRange (v .sum) → Right counts s (Add c v)
+  put : {c : ℕ} {v : ℤ} → c < counts .counters → (Ranged s → CounterInRange v) → Right counts s (Put c v)
+  add : {c : ℕ} {v : Sum} → c < counts .counters → CounterInRange (v .sum) → Right counts s (Add c v)
   give : {e : ℕ} → e < counts .signals → Right counts s (Give e)
-  giveNumber : {e : ℕ} {v : ℤ} → e < counts .signals → (Ranged s → InRange v) → Right counts s (GiveNumber e v)
+  giveNumber : {e : ℕ} {v : ℤ} → e < counts .signals → (Ranged s → CounterInRange v) → Right counts s (GiveNumber e v)
   start : {t : ℕ} → t < counts .routines → Right counts s (Start t)
   stop : {t : ℕ} → t < counts .routines → Right counts s (Stop t)
   suspend : {t : ℕ} → t < counts .routines → Right counts s (Suspend t)
@@ -84,7 +84,7 @@ module _ (counts : Counts) (steps : List ℕ) where
   -- what fitting asks of a routine's position
   pub record Stands (x : Position) : Type 0 where
     pub inside : x .place ≤ sizeOf steps
-    pub whereBegun : x .begun ≡ true → LeftOf (stepAt counts steps (x .place)) (x .left)
+    pub whereBegun : x .begun ≡ true → MayBeLeft (stepAt counts steps (x .place)) (x .left)
     pub elsewhere : x .begun ≡ false → x .left ≡ 0
 
 -- routine r stands at position x

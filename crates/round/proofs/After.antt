@@ -13,7 +13,7 @@ use Rattle.game.specs.declared.Game.{Game}
 use Rattle.game.specs.Game.{routineAt}
 use Rattle.fitting.specs.Fits.{Fits}
 use Rattle.round.specs.State.{State, withMoves, Happening}
-use Rattle.round.specs.History.{Among}
+use Rattle.round.specs.Counting.{Among}
 use Rattle.round.specs.Actions.{atStart}
 use Rattle.round.specs.Rounds.{again, mostPasses, listedIn, turn, pass, instant, round, historyOf}
 use Rattle.round.specs.Answers.{answer}

@@ -14,7 +14,7 @@ use Rattle.blocks.specs.Blocks.{stands, deepest}
 use Rattle.blocks.specs.Parse.{ParsedBlock, WhilesPause}
 use Rattle.blocks.proofs.Views.{standing-below}
 use Rattle.round.specs.Jumps.{sizeOf}
-use Rattle.round.specs.History.{countBelow}
+use Rattle.round.specs.Counting.{countBelow}
 use Rattle.round.proofs.Counting.{below-le, one, one-le, count-drops}
 use Rattle.round.proofs.Leads.{isHalt, formAt, Leads}
 use Rattle.round.proofs.Falls.{rank, falls, going-below}

@@ -8,7 +8,7 @@ use mathlib.Core.Logic.{inl, inr}
 use Rattle.numbers.proofs.Tests.{by-test}
 use Rattle.game.specs.declared.Game.{Game}
 use Rattle.round.specs.State.{State, Happening}
-use Rattle.round.specs.History.{Among}
+use Rattle.round.specs.Counting.{Among}
 use Rattle.round.specs.Actions.{atStart}
 use Rattle.round.specs.Rounds.{Played, followedBy, allDone, again, mostPasses, listedIn, turn, pass, Round, instant, round, historyOf}
 

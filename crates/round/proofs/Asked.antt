@@ -15,7 +15,7 @@ use Rattle.round.specs.declared.Position.{Position}
 use Rattle.round.specs.declared.Effect.{Effect}
 use Rattle.round.specs.declared.Act.the-variants.{Goes}
 use Rattle.round.specs.State.{State, Thing, Happening, gave, ended, missing, past, marked, completed}
-use Rattle.round.specs.History.{Somewhere}
+use Rattle.round.specs.Counting.{Somewhere}
 use Rattle.round.specs.Ticks.{telling, tick}
 use Rattle.round.specs.Rounds.{turn, historyOf}
 use Rattle.round.specs.Demand.{AsksFor, wait, waitFor, join, joinFor, read}

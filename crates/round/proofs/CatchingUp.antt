@@ -9,7 +9,7 @@ use native.Mathlib.Decide.{ℕ-discrete}
 use native.Mathlib.Omega.{arith}
 use Rattle.numbers.proofs.Tests.{clash, by-flag}
 use Rattle.round.specs.State.{State, Thing, Happening, gave, ended, missing, past, marked, completed, isThere}
-use Rattle.round.specs.History.{howMany, Among, Somewhere}
+use Rattle.round.specs.Counting.{howMany, Among, Somewhere}
 use Rattle.round.specs.Rounds.{Played, again, turn, pass}
 use Rattle.round.specs.Demand.{Comes, IsPast, here, later, CatchesUp}
 use Rattle.round.specs.Whole.{isMiss}

@@ -9,7 +9,7 @@ use native.Mathlib.Decide.{ℕ-discrete}
 use native.Mathlib.Omega.{arith}
 use Rattle.numbers.proofs.Tests.{clash, both-true, not-true-false, by-flag}
 use Rattle.round.specs.State.{State, Thing, signal, end, number, isThere, isEndThere}
-use Rattle.round.specs.History.{howMany, Among}
+use Rattle.round.specs.Counting.{howMany, Among}
 use Rattle.round.specs.Rounds.{Played, allDone, again, turn, pass}
 use Rattle.round.proofs.Along.{All}
 use Rattle.round.proofs.Histories.{moves-append}

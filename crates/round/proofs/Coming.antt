@@ -16,7 +16,7 @@ use Rattle.round.specs.declared.Position.{Position}
 use Rattle.round.specs.declared.Effect.{Effect}
 use Rattle.round.specs.declared.Effect.the-variants.{Mark}
 use Rattle.round.specs.State.{State, Thing, signal, end, number, Happening, gave, completed, isThere}
-use Rattle.round.specs.History.{howMany, Somewhere}
+use Rattle.round.specs.Counting.{howMany, Somewhere}
 use Rattle.round.specs.Ticks.{effectOn}
 use Rattle.round.specs.Rounds.{ticks, ticksOf}
 use Rattle.round.specs.Demand.{givesSignal, endsRoutine, Comes}

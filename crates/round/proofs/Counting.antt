@@ -13,7 +13,7 @@ use lib.Dec.{eqb}
 use Rattle.numbers.specs.Choice.{if_then_else_}
 use Rattle.numbers.proofs.Tests.{clash}
 use Rattle.numbers.specs.Below.{sumBelow}
-use Rattle.round.specs.History.{countBelow}
+use Rattle.round.specs.Counting.{countBelow}
 
 pub below-le : (f g : ℕ → ℕ) → ((r : ℕ) → f r ≤ g r) → (n : ℕ) → sumBelow f n ≤ sumBelow g n
 unfolding sumBelow

@@ -26,7 +26,7 @@ use Rattle.round.specs.declared.Effect.{Effect}
 use Rattle.round.specs.declared.Act.{Act}
 use Rattle.round.specs.declared.Act.the-variants.{Goes, Halts}
 use Rattle.round.specs.State.{State, Thing, signal, end, Happening, isThere}
-use Rattle.round.specs.History.{Among}
+use Rattle.round.specs.Counting.{Among}
 use Rattle.round.specs.Actions.{positionOf, atStart}
 use Rattle.round.specs.Jumps.{sizeOf}
 use Rattle.round.specs.Ticks.{begunAt, countAt, tickAt, tick, fresh}

@@ -19,7 +19,7 @@ use Rattle.game.specs.declared.Game.{Game}
 use Rattle.game.specs.Game.{continuing, rested, ended, notStarted, stopped, routineAt}
 use Rattle.fitting.specs.Fits.{Fits, In}
 use Rattle.round.specs.State.{State}
-use Rattle.round.specs.History.{Among}
+use Rattle.round.specs.Counting.{Among}
 use Rattle.round.specs.Actions.{atStart}
 use Rattle.round.specs.Rounds.{mostPasses, listedIn, round}
 use Rattle.round.specs.Answers.{spaceFor, answer}

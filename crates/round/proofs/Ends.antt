@@ -23,7 +23,7 @@ use Rattle.fitting.specs.Fits.{Fits}
 use Rattle.round.specs.declared.Ending.{Ending}
 use Rattle.round.specs.declared.Position.{Position}
 use Rattle.round.specs.State.{State, Happening, gave, ended, missing, past, marked, completed}
-use Rattle.round.specs.History.{sumOver, howMany, Somewhere, Among}
+use Rattle.round.specs.Counting.{sumOver, howMany, Somewhere, Among}
 use Rattle.round.specs.Actions.{kept, atStart}
 use Rattle.round.specs.Rounds.{stageAfter, listedIn, ticksOf, turn, historyOf}
 use Rattle.round.specs.Demand.{endsRoutine}

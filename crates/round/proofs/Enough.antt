@@ -20,7 +20,7 @@ use Rattle.round.specs.declared.Position.{Position}
 use Rattle.round.specs.declared.Act.{Act}
 use Rattle.round.specs.declared.Act.the-variants.{Goes, Halts}
 use Rattle.round.specs.State.{State}
-use Rattle.round.specs.History.{countBelow, stepsIn, howMany}
+use Rattle.round.specs.Counting.{countBelow, stepsIn, howMany}
 use Rattle.round.specs.Actions.{atStart}
 use Rattle.round.specs.Ticks.{tick, fresh, effectOn}
 use Rattle.round.specs.Rounds.{follow, ticks, passThen, mostPasses, listedIn, turn, pass, instant, round}

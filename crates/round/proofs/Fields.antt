@@ -5,7 +5,7 @@ use mathlib.Core.Path.{_≡_, subst}
 use mathlib.Core.List.{List}
 use lib.IntN.{ℤ}
 use lib.Signed.{_≤ℤ_}
-use Rattle.numbers.specs.Numbers.{InRange}
+use Rattle.numbers.specs.Numbers.{CounterInRange}
 use Rattle.kinds.specs.declared.Kind.{Kind}
 use Rattle.kinds.specs.declared.Kind.the-variants.{Mark, Set, Add, Take, Signal, SignalNumber, Rest, RestFor, Wait, WaitFor}
 use Rattle.kinds.specs.declared.Kind.the-variants.{Join, JoinFor, Read, Start, Stop, Suspend, Resume, If, Else, While, End}
@@ -19,8 +19,8 @@ use Rattle.partners.proofs.Scan.{Rows, _and_, step-holds, row-kind}
 -- what the fields of a kind are
 abbrev pub FieldsRight : Counts → Kind → Type 0
 FieldsRight counts (Mark n) = Unit {0}
-FieldsRight counts (Set c n) = (c < counts .counters) × InRange n
-FieldsRight counts (Add c n) = (c < counts .counters) × InRange n
+FieldsRight counts (Set c n) = (c < counts .counters) × CounterInRange n
+FieldsRight counts (Add c n) = (c < counts .counters) × CounterInRange n
 FieldsRight counts (Take c d) = (c < counts .counters) × (d < counts .counters)
 FieldsRight counts (Signal e) = e < counts .signals
 FieldsRight counts (SignalNumber e c) = (e < counts .signals) × (c < counts .counters)

@@ -17,7 +17,7 @@ use Rattle.game.specs.Game.{routineAt}
 use Rattle.fitting.specs.Fits.{Fits}
 use Rattle.round.specs.declared.Position.{Position}
 use Rattle.round.specs.State.{State, Thing, Happening, missing, completed, isThere}
-use Rattle.round.specs.History.{Somewhere, Among}
+use Rattle.round.specs.Counting.{Somewhere, Among}
 use Rattle.round.specs.Actions.{positionOf, atStart}
 use Rattle.round.specs.Rounds.{again, listedIn, turn, historyOf}
 use Rattle.round.specs.Demand.{Comes, IsPast}

@@ -9,7 +9,7 @@ use native.Mathlib.Decide.{decLt}
 use lib.Dec.{ltb}
 use lib.ListN.{length, getD, length-set, List·getD-eq-default}
 use lib.IntN.{ℤ, pos}
-use Rattle.numbers.specs.Numbers.{InRange}
+use Rattle.numbers.specs.Numbers.{CounterInRange}
 use Rattle.numbers.proofs.Tests.{by-test}
 use Rattle.layout.specs.Layout.{mostCounters, countersOf, countsOf}
 use Rattle.book.specs.Accepted.{Accepted}
@@ -73,7 +73,7 @@ module _ {book : List ℕ} {s : State} (h : Sound book s) where
 
   -- a counter of the book gets a content in range
   counter-sound :
-      Accepted book → (c : ℕ) (v : ℤ) → c < countersOf book → InRange v → Sound book (withGame s (withCounter (s .game) c v))
+      Accepted book → (c : ℕ) (v : ℤ) → c < countersOf book → CounterInRange v → Sound book (withGame s (withCounter (s .game) c v))
   counter-sound a c v below inside =
       let z = h .fits .sized in
       let l = s .game .counters in
@@ -104,7 +104,7 @@ module _ (book : List ℕ) (a : Accepted book) where
   effect-sound s (GiveNumber e v) (giveNumber below inside) h =
       by-test (Sound book) (ltb (length (s .numbers)) mostNumbers)
       (λ room.
-      let all = all-append (λ x. InRange (x .1)) (s .numbers) ((e, v) ∷ []) (h .numbers) (inside (sound-ranged h), tt) in
+      let all = all-append (λ x. CounterInRange (x .1)) (s .numbers) ((e, v) ∷ []) (h .numbers) (inside (sound-ranged h), tt) in
       given-sound h e _ (s .tooMany) all)
       (λ full. given-sound h e (s .numbers) true (h .numbers))
   effect-sound s (Start t) (start below) h = order-sound h 1 t below

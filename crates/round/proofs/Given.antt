@@ -19,7 +19,7 @@ use Rattle.round.specs.declared.Position.{Position}
 use Rattle.round.specs.declared.Effect.{Effect}
 use Rattle.round.specs.declared.Effect.the-variants.{GiveNumber}
 use Rattle.round.specs.State.{State, completed, Happening, gave, numbersOf}
-use Rattle.round.specs.History.{howMany}
+use Rattle.round.specs.Counting.{howMany}
 use Rattle.round.specs.Actions.{atStart}
 use Rattle.round.specs.Ticks.{mostNumbers, effectOn}
 use Rattle.round.specs.Rounds.{ticksOf, turn, round}

@@ -14,7 +14,7 @@ use Rattle.round.specs.declared.Ending.{Ending}
 use Rattle.round.specs.declared.Position.{Position}
 use Rattle.round.specs.declared.Effect.{Effect}
 use Rattle.round.specs.State.{State, Thing, signal, end, number, Happening, gave, ended, missing, past, marked}
-use Rattle.round.specs.History.{howMany, Somewhere}
+use Rattle.round.specs.Counting.{howMany, Somewhere}
 use Rattle.round.specs.Demand.{givesSignal, endsRoutine, Comes, signalGiven, routineEnded, numberGiven}
 use Rattle.round.proofs.Acts.{Says, silent, marks, gives, givesNumber, finds, Stops, ends, rests, misses, continues}
 use Rattle.round.proofs.TurnLaws.{moves}

@@ -18,7 +18,7 @@ use Rattle.round.specs.declared.Act.{Act}
 use Rattle.round.specs.declared.Act.the-variants.{Goes, Halts}
 use Rattle.round.specs.State.{State, Happening}
 use Rattle.round.specs.Jumps.{sizeOf}
-use Rattle.round.specs.History.{countBelow}
+use Rattle.round.specs.Counting.{countBelow}
 use Rattle.round.specs.Ticks.{tick, fresh, effectOn}
 use Rattle.round.specs.Rounds.{mostTicks}
 use Rattle.round.specs.Enough.{IfItGoesOn, InTime}

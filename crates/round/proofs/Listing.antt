@@ -20,7 +20,7 @@ use Rattle.round.specs.Actions.{kept}
 use Rattle.round.proofs.Histories.{somewhere-append}
 use Rattle.round.proofs.Along.{All, among-all, Distinct}
 use Rattle.round.proofs.Entries.{appended-entries, item-at, entries-length}
-use Rattle.round.specs.History.{Among}
+use Rattle.round.specs.Counting.{Among}
 
 pub among-or : (r : ℕ) (rs : List ℕ) → Among r rs ⊎ (Among r rs → ⊥)
 among-or r [] = inr (λ h. h)

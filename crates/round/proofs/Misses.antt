@@ -12,7 +12,7 @@ use Rattle.fitting.specs.Fits.{Fits}
 use Rattle.round.specs.declared.Ending.{Ending}
 use Rattle.round.specs.declared.Position.{Position}
 use Rattle.round.specs.State.{State, Happening}
-use Rattle.round.specs.History.{howMany}
+use Rattle.round.specs.Counting.{howMany}
 use Rattle.round.specs.Actions.{atStart}
 use Rattle.round.specs.Rounds.{took, Played, followedBy, mostPasses, listedIn, turn, round, historyOf}
 use Rattle.round.specs.Whole.{isMiss, lacksThing}

@@ -11,7 +11,7 @@ use borrow.Author.Tests.{eq-eqb, ne-eqb}
 use lib.Dec.{eqb}
 use Rattle.directory.specs.Directory.{stepCount}
 use Rattle.numbers.specs.Below.{sumBelow}
-use Rattle.round.specs.History.{countBelow, stepsIn}
+use Rattle.round.specs.Counting.{countBelow, stepsIn}
 use Rattle.round.specs.Completed.{theStep}
 use Rattle.round.proofs.Along.{Distinct}
 use Rattle.round.proofs.Counting.{below-same, one}

@@ -11,7 +11,7 @@ use Rattle.book.specs.Accepted.{Accepted}
 use Rattle.game.specs.Game.{routineAt}
 use Rattle.round.specs.declared.Ending.{Ending}
 use Rattle.round.specs.State.{State}
-use Rattle.round.specs.History.{howMany}
+use Rattle.round.specs.Counting.{howMany}
 use Rattle.round.specs.Actions.{positionOf}
 use Rattle.round.specs.Rounds.{Ticks, mostTicks, afterTurn, took, isDone, ticksOf, turn}
 use Rattle.round.specs.Whole.{isMiss}

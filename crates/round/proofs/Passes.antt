@@ -7,7 +7,7 @@ use mathlib.Core.List.{List, [], append-nil}
 use mathlib.Core.Logic.{_⊎_, inl, inr}
 use native.Mathlib.Omega.{arith}
 use Rattle.numbers.proofs.Tests.{clash, by-test, by-flag}
-use Rattle.round.specs.History.{Among}
+use Rattle.round.specs.Counting.{Among}
 use Rattle.round.specs.State.{State, Thing, Happening, isThere}
 use Rattle.round.specs.Rounds.{followedBy, allDone, again, pass, Round, instant}
 use Rattle.round.specs.Demand.{CatchesUp}

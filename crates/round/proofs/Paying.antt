@@ -16,7 +16,7 @@ use Rattle.round.specs.declared.Ending.{Ending}
 use Rattle.round.specs.declared.Position.{Position}
 use Rattle.round.specs.declared.Effect.{Effect}
 use Rattle.round.specs.State.{State, Thing, Happening, ended, missing, completed}
-use Rattle.round.specs.History.{howMany}
+use Rattle.round.specs.Counting.{howMany}
 use Rattle.round.specs.Actions.{positionOf}
 use Rattle.round.specs.Ticks.{fresh}
 use Rattle.round.specs.Rounds.{ticks, took, isDone, ticksOf, turn}

@@ -13,7 +13,7 @@ use Rattle.game.specs.declared.Game.{Game}
 use Rattle.fitting.specs.Fits.{Fits}
 use Rattle.round.specs.declared.Position.{Position}
 use Rattle.round.specs.State.{State, Happening}
-use Rattle.round.specs.History.{sumOver, howMany, Among}
+use Rattle.round.specs.Counting.{sumOver, howMany, Among}
 use Rattle.round.specs.Actions.{atStart}
 use Rattle.round.specs.Rounds.{listedIn, turn, pass, round, historyOf}
 use Rattle.round.proofs.Sums.{over-le}

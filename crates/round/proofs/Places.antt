@@ -25,7 +25,7 @@ use Rattle.round.specs.declared.Position.{Position}
 use Rattle.round.specs.declared.Effect.{Effect}
 use Rattle.round.specs.declared.Act.the-variants.{Halts}
 use Rattle.round.specs.State.{State, Thing, Happening, gave, ended, missing, past, marked, completed}
-use Rattle.round.specs.History.{howMany, Somewhere}
+use Rattle.round.specs.Counting.{howMany, Somewhere}
 use Rattle.round.specs.Jumps.{sizeOf}
 use Rattle.round.specs.Ticks.{telling, tick, effectOn}
 use Rattle.round.specs.Rounds.{Ticks, ticks}

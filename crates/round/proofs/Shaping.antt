@@ -11,7 +11,7 @@ use Rattle.round.specs.declared.Ending.{Ending}
 use Rattle.round.specs.declared.Ending.the-variants.{Continued}
 use Rattle.round.specs.declared.Position.{Position}
 use Rattle.round.specs.State.{State, Thing, Happening, missing, completed, isThere}
-use Rattle.round.specs.History.{howMany}
+use Rattle.round.specs.Counting.{howMany}
 use Rattle.round.specs.Rounds.{Ticks, ticks, took, isDone}
 use Rattle.round.specs.Enough.{InTime}
 use Rattle.round.specs.Demand.{endsRoutine}

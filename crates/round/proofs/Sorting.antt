@@ -12,7 +12,7 @@ use lib.ListN.{getD}
 use lib.IntN.{ℤ, pos}
 use lib.Signed.{leZ-yes}
 use Rattle.numbers.specs.Choice.{if_then_else_}
-use Rattle.numbers.specs.Numbers.{InRange, relationOf}
+use Rattle.numbers.specs.Numbers.{CounterInRange, relationOf}
 use Rattle.numbers.specs.Sums.{AddsUp, within, above, below}
 use Rattle.numbers.proofs.Sums.{adds-up}
 use Rattle.numbers.proofs.Tests.{by-test}
@@ -44,19 +44,19 @@ use Rattle.round.proofs.Fields.{FieldsRight, fields-right}
 use Rattle.round.proofs.Tries.{some-left, fresh-stands, begun-stands, tries-sorted, waits-sorted, waits-for-sorted}
 
 -- "An addition beyond an end gives that end."
-sum-in-range : {v n z : ℤ} → AddsUp v n z → InRange z
-sum-in-range (within low high) = (low, high)
+sum-in-range : {v n z : ℤ} → AddsUp v n z → CounterInRange z
+sum-in-range (within inside) = inside
 sum-in-range (above h) = (leZ-yes tt, leZ-yes tt)
 sum-in-range (below h) = (leZ-yes tt, leZ-yes tt)
 
 -- a number given with signal e, or 0 where there is none
-number-in-range : (e : ℕ) (xs : List (ℕ × ℤ)) (i : ℕ) → NumbersRight xs → InRange (getD (numbersWith e xs) i (pos 0))
+number-in-range : (e : ℕ) (xs : List (ℕ × ℤ)) (i : ℕ) → NumbersRight xs → CounterInRange (getD (numbersWith e xs) i (pos 0))
 unfolding numbersWith
 number-in-range e [] i h = (leZ-yes tt, leZ-yes tt)
 number-in-range e (x ∷ xs) zero h =
-    by-test (λ (l : List ℤ). InRange (getD l 0 (pos 0))) (eqb (x .0) e) (λ own. h .0) (λ other. number-in-range e xs zero (h .1))
+    by-test (λ (l : List ℤ). CounterInRange (getD l 0 (pos 0))) (eqb (x .0) e) (λ own. h .0) (λ other. number-in-range e xs zero (h .1))
 number-in-range e (x ∷ xs) (suc i) h =
-    by-test (λ (l : List ℤ). InRange (getD l (suc i) (pos 0))) (eqb (x .0) e) (λ own. number-in-range e xs i (h .1))
+    by-test (λ (l : List ℤ). CounterInRange (getD l (suc i) (pos 0))) (eqb (x .0) e) (λ own. number-in-range e xs i (h .1))
     (λ other. number-in-range e xs (suc i) (h .1))
 
 -- a count that is none though n is some was begun

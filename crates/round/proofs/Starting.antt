@@ -29,7 +29,7 @@ use Rattle.round.proofs.Actions.{each-length, each-other, each-given, s
 use Rattle.round.proofs.Actions.{halted, last, at-start-routines, at-start-positions, kept-below, staying-short, at-start-entries}
 use Rattle.round.proofs.Listing.{among-or, distinct-joined, among-kept, distinct-kept}
 use Rattle.round.proofs.Listing.{in-among, among-in, entries-distinct, appended-sized, appended-right}
-use Rattle.round.specs.History.{Among}
+use Rattle.round.specs.Counting.{Among}
 
 -- a stage that is not under way
 abbrev Idle : ℕ → Type 0

@@ -9,7 +9,7 @@ use native.Mathlib.Omega.{arith}
 use lib.ListN.{length}
 use Rattle.numbers.proofs.Tests.{by-test}
 use Rattle.numbers.specs.Below.{sumBelow}
-use Rattle.round.specs.History.{sumOver, Among}
+use Rattle.round.specs.Counting.{sumOver, Among}
 use Rattle.round.specs.Actions.{kept}
 use Rattle.round.proofs.Counting.{without, without-other, below-without, one}
 use Rattle.round.proofs.Along.{All, Distinct}

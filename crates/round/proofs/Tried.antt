@@ -11,7 +11,7 @@ use Rattle.book.specs.Accepted.{Accepted}
 use Rattle.game.specs.declared.Game.{Game}
 use Rattle.fitting.specs.Fits.{Fits}
 use Rattle.round.specs.State.{State, Thing, Happening, missing, past, isThere}
-use Rattle.round.specs.History.{Somewhere}
+use Rattle.round.specs.Counting.{Somewhere}
 use Rattle.round.specs.Actions.{atStart}
 use Rattle.round.specs.Rounds.{turn, round, historyOf}
 use Rattle.round.specs.Demand.{Comes}

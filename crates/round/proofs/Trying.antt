@@ -14,7 +14,7 @@ use Rattle.round.specs.declared.Position.{Position}
 use Rattle.round.specs.declared.Ending.{Ending}
 use Rattle.round.specs.declared.Effect.{Effect}
 use Rattle.round.specs.State.{State, Thing, Happening, gave, ended, missing, past, marked, completed, isThere}
-use Rattle.round.specs.History.{howMany, Somewhere}
+use Rattle.round.specs.Counting.{howMany, Somewhere}
 use Rattle.round.specs.Ticks.{effectOn}
 use Rattle.round.specs.Rounds.{ticks, ticksOf, turn}
 use Rattle.round.specs.Demand.{endsRoutine, Comes}

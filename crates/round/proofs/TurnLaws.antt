@@ -19,7 +19,7 @@ use Rattle.round.specs.declared.Ending.the-variants.{Continued}
 use Rattle.round.specs.declared.Position.{Position}
 use Rattle.round.specs.State.{State, Thing, Happening, missing, isThere}
 use Rattle.round.specs.Actions.{positionOf}
-use Rattle.round.specs.History.{howMany, Somewhere}
+use Rattle.round.specs.Counting.{howMany, Somewhere}
 use Rattle.round.specs.Rounds.{took, notTaken, isDone, again, turn}
 use Rattle.round.specs.Demand.{givesSignal, endsRoutine, Comes, IsPast}
 use Rattle.round.specs.Whole.{isMiss}

@@ -23,7 +23,7 @@ use Rattle.round.specs.declared.Ending.{Ending}
 use Rattle.round.specs.declared.Ending.the-variants.{Ended}
 use Rattle.round.specs.declared.Position.{Position}
 use Rattle.round.specs.State.{State, withGame, Thing, signal, end, number, Happening, ended, isEndThere, isThere}
-use Rattle.round.specs.History.{howMany, Somewhere}
+use Rattle.round.specs.Counting.{howMany, Somewhere}
 use Rattle.round.specs.Actions.{placed}
 use Rattle.round.specs.Rounds.{Ticks, afterTurn, ticksOf, turn}
 use Rattle.round.specs.Demand.{endsRoutine, Comes}

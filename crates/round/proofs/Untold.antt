@@ -16,7 +16,7 @@ use Rattle.fitting.specs.Fits.{Fits}
 use Rattle.round.specs.declared.Effect.{Effect}
 use Rattle.round.specs.declared.Position.{Position}
 use Rattle.round.specs.State.{State, Happening, completed}
-use Rattle.round.specs.History.{howMany, Among}
+use Rattle.round.specs.Counting.{howMany, Among}
 use Rattle.round.specs.Actions.{positionOf, atStart}
 use Rattle.round.specs.Rounds.{listedIn, turn, historyOf}
 use Rattle.round.specs.Whole.{isOf, Plays}

@@ -11,7 +11,7 @@ use native.Mathlib.Omega.{arith}
 use Rattle.numbers.proofs.Tests.{and-both, not-true-false, by-flag}
 use Rattle.numbers.proofs.Tests.{clash}
 use Rattle.round.specs.State.{State, Happening}
-use Rattle.round.specs.History.{Among}
+use Rattle.round.specs.Counting.{Among}
 use Rattle.round.specs.Rounds.{Turn, took, Played, followedBy, isDone, allDone, turn, pass}
 use Rattle.round.proofs.Along.{All, pass-along}
 use Rattle.round.proofs.Histories.{moves-append, nothing-comes}

@@ -18,7 +18,7 @@ use Rattle.round.specs.declared.Ending.{Ending}
 use Rattle.round.specs.declared.Ending.the-variants.{Ended, Rested, Missed, Continued}
 use Rattle.round.specs.declared.Position.{Position}
 use Rattle.round.specs.State.{State, Thing, Happening, missing, completed}
-use Rattle.round.specs.History.{Among}
+use Rattle.round.specs.Counting.{Among}
 use Rattle.round.specs.Actions.{positionOf, placed, atStart}
 use Rattle.round.specs.Rounds.{stageAfter, afterTurn, listedIn, ticksOf, turn, historyOf}
 use Rattle.round.specs.Replay.{placeAfter}

@@ -7,7 +7,7 @@ use Rattle.game.specs.declared.Game.{Game}
 use Rattle.game.specs.Game.{routineAt}
 use Rattle.round.specs.declared.Ending.the-variants.{Continued}
 use Rattle.round.specs.State.{State, Thing, Happening, missing, isThere}
-use Rattle.round.specs.History.{howMany}
+use Rattle.round.specs.Counting.{howMany}
 use Rattle.round.specs.Actions.{positionOf, atStart}
 use Rattle.round.specs.Rounds.{took, allDone, again, listedIn, turn, pass}
 use Rattle.round.specs.Demand.{givesSignal, endsRoutine}

@@ -14,7 +14,7 @@ use Rattle.book.specs.Book.{stepsPart, bookVerdict}
 use Rattle.game.specs.declared.Game.{Game}
 use Rattle.orders.specs.Orders.{fitVerdict}
 use Rattle.round.specs.State.{Happening, gave, ended, missing, past, marked, completed}
-use Rattle.round.specs.History.{countBelow}
+use Rattle.round.specs.Counting.{countBelow}
 use Rattle.round.specs.Rounds.{Round, round}
 
 -- "0 mark"

@@ -16,7 +16,7 @@ use Rattle.game.specs.declared.Game.{Game}
 use Rattle.game.specs.Game.{routineAt}
 use Rattle.game.specs.Game as stage
 use Rattle.round.specs.State.{Thing, signal, end, number, Happening, gave, ended, missing, past, marked, completed}
-use Rattle.round.specs.History.{stepsIn, howMany, Somewhere, Among}
+use Rattle.round.specs.Counting.{stepsIn, howMany, Somewhere, Among}
 use Rattle.round.specs.Actions.{atStart}
 use Rattle.round.specs.Rounds.{listedIn, historyOf}
 
@@ -53,8 +53,8 @@ endsRoutine (past r p t) = false
 endsRoutine (marked r n) = false
 endsRoutine (completed r p) = false
 
--- what a step of op 8 to 12 asks for: "its signal, the joined routine's end or the signal's k-th number", by the table's "8 wait, 9 wait
--- n", "10 join, 11 join n" and "12 read"
+-- what a step of op 8 to 12 asks for: "its signal, the joined routine's end or the signal's k-th number", by the table's
+-- "8 wait, 9 wait n", "10 join, 11 join n" and "12 read"
 pub data AsksFor : Step → Thing → Type 0 where
   wait : {e : ℕ} → AsksFor (step.Kind (kind.Wait e)) (signal e)
   waitFor : {e n : ℕ} → AsksFor (step.Kind (kind.WaitFor e n)) (signal e)

@@ -1,5 +1,5 @@
 pub mod State
-pub mod History
+pub mod Counting
 pub mod Actions
 pub mod Jumps
 pub mod Ticks

@@ -83,11 +83,11 @@ pub record Played : Type 0 where
   pub told : List Happening
   pub turns : List Turn
 
--- rule 33: a routine is passed over in state s
+-- rule 33, "Nothing is done": the routine is passed over, and the state stays s
 abbrev pub notTaken : State → Played
 notTaken s = record { state = s; told = []; turns = passedOver ∷ [] }
 
--- rule 34: a turn of routine r in which it takes these steps
+-- rule 34: routine r takes these steps; behind them its stage, end signal and the move flag are set (afterTurn)
 abbrev pub taken : ℕ → Ticks → Played
 taken r t = record { state = afterTurn r t; told = t .told; turns = took (t .ending) ∷ [] }
 
@@ -116,7 +116,7 @@ pub record Round : Type 0 where
   pub played : Played
   pub passes : ℕ
 
--- rules 37 and 38: a pass, and the others behind it unless all are done
+-- a pass: alone if all its turns are done (rule 37), and otherwise with the passes behind it (rule 38)
 abbrev pub passThen : Played → Round → Round
 passThen first others =
     if allDone (first .turns)

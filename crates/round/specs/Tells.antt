@@ -12,7 +12,7 @@ use Rattle.book.specs.Tells.{Tells}
 use Rattle.game.specs.declared.Game.{Game}
 use Rattle.fitting.specs.Fits.{Fits}
 use Rattle.round.specs.State.{Happening, gave, ended, missing, past, marked, completed}
-use Rattle.round.specs.History.{howMany}
+use Rattle.round.specs.Counting.{howMany}
 use Rattle.round.specs.Ticks.{mostNumbers}
 use Rattle.round.specs.Rounds.{round}
 use Rattle.round.specs.Answers.{spaceFor}

@@ -17,7 +17,7 @@ use Rattle.round.specs.declared.Position.{Position}
 use Rattle.round.specs.declared.Effect.the-variants.{Nothing}
 use Rattle.round.specs.declared.Act.the-variants.{Goes, Halts}
 use Rattle.round.specs.State.{State, signal, end, completed, isThere}
-use Rattle.round.specs.History.{Somewhere, Among}
+use Rattle.round.specs.Counting.{Somewhere, Among}
 use Rattle.round.specs.Actions.{positionOf, atStart}
 use Rattle.round.specs.Ticks.{begunAt, countAt, tickAt}
 use Rattle.round.specs.Rounds.{stageAfter, listedIn, round, historyOf}

@@ -21,7 +21,7 @@ use Rattle.game.specs.Game.{routineAt}
 use Rattle.game.specs.Game as stage
 use Rattle.round.specs.declared.Ending.the-variants.{Ended, Rested, Missed, Continued}
 use Rattle.round.specs.State.{Thing, Happening, gave, ended, missing, past, marked, completed, isThere}
-use Rattle.round.specs.History.{howMany, Somewhere, Among}
+use Rattle.round.specs.Counting.{howMany, Somewhere, Among}
 use Rattle.round.specs.Actions.{kept, positionOf, atStart}
 use Rattle.round.specs.Rounds.{Turn, passedOver, took, listedIn, round, historyOf}
 use Rattle.round.specs.Demand.{isSignalStep, givesSignal, endsRoutine, AsksFor, Comes}

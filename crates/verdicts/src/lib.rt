@@ -42,14 +42,14 @@ pub fn verdict_of(answer: Answer) -> Verdict
     }
 }
 
-// A refusal's number and place as a verdict.
+// A number and a place as a verdict.
 pub fn told(number: u32, place: u32) -> Verdict
     ensures { λ r. ⌜ r ≡ refused number place ⌝ }
 {
     Verdict { number, place }
 }
 
-// The first of two answers that is a refusal.
+// The first of two answers that is a refusal; the second where neither is one.
 pub fn first_answer(one: Answer, other: Answer) -> Answer
     ensures { λ r. ⌜ verdictOf r ≡ (verdictOf one orElse verdictOf other) ⌝ }
 {

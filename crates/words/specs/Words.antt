@@ -26,6 +26,7 @@ firstOf text = take (foundAt text 0 space) text
 abbrev pub restOf : List ℕ → List ℕ
 restOf text = drop (foundAt text 0 space + 1) text
 
+-- two words have the same byte at place i
 abbrev pub sameAt : List ℕ → List ℕ → ℕ → Bool
 sameAt word name i = eqb (getD word i 0) (getD name i 0)
 

@@ -10,7 +10,7 @@ use borrow.Author.Needs.{needs}
 use borrow.Author.Tests.{lt-ltb, le-ltb, le-leb, lt-leb, eq-eqb, ne-eqb}
 use Rattle.numbers.specs.Below.{allBelow}
 use Rattle.numbers.proofs.Below.{all-fails, all-next, all-ends}
-use Rattle.hex.specs.Hex.{longest, digitAt, isHex}
+use Rattle.hex.specs.Hex.{longest, isDigitAt, isHex}
 use Rattle.hex.proofs.is_hex.Statement.{statement}
 use Rattle.hex.proofs.is_hex.Tie as tie
 
@@ -29,12 +29,12 @@ module _ (word : List ℕ) where
 
   digits :
       (length word ≡ 0 → ⊥) → length word % 2 ≡ 0 → length word / 2 ≤ longest →
-      allBelow (length word) (digitAt word) ≡ isHex word
+      allBelow (length word) (isDigitAt word) ≡ isHex word
   unfolding isHex
   digits some even room = rw (lt-ltb 0 (length word) (omega arith), eq-eqb _ _ even, le-leb _ _ room)
 
 abbrev Inv-loop : tie.InvT-loop
-Inv-loop word at₀ at = (allBelow at (digitAt word) ≡ true) × (at ≤ length word)
+Inv-loop word at₀ at = (allBelow at (isDigitAt word) ≡ true) × (at ≤ length word)
 
 abbrev μ-loop : tie.MeasureT-loop
 μ-loop word at₀ at = length word - at
@@ -51,7 +51,7 @@ returns-3 c = long _ (c .before .before .if1 .left) (c .before .if2 .left) (c .i
 -- past the three tests the digits decide
 tested :
     (c : tie.Else3 Inv-loop μ-loop) →
-    let word = c .before .before .before .before .args .word .now in allBelow (length word) (digitAt word) ≡ isHex word
+    let word = c .before .before .before .before .args .word .now in allBelow (length word) (isDigitAt word) ≡ isHex word
 tested c = digits _ (c .before .before .if1 .left) (c .before .if2 .left) (c .if3 .left)
 
 loop-holds : tie.Need-loop-holds Inv-loop μ-loop

@@ -11,7 +11,7 @@ use borrow.Author.Needs.{needs}
 use borrow.Author.Tests.{leb-true}
 use Rattle.hex.specs.declared.Bytes.the-variants as bytes
 use Rattle.digits.specs.Digits.{minus}
-use Rattle.hex.specs.Hex.{longest, digitAt, isHex, writtenFrom, bytesIn, writtenIn}
+use Rattle.hex.specs.Hex.{longest, isDigitAt, isHex, writtenFrom, bytesIn, writtenIn}
 use Rattle.words.specs.Words.{isSame}
 use Rattle.numbers.specs.Below.{allBelow}
 use Rattle.numbers.proofs.Tests.{and-both}
@@ -23,7 +23,7 @@ unfolding isHex
 room word h =
     let even = ltb 0 (length word) && eqb (length word % 2) 0 in
     let few = leb (length word / 2) longest in
-    leb-true _ _ (and-both even few (and-both (even && few) (allBelow (length word) (digitAt word)) h .0) .1)
+    leb-true _ _ (and-both even few (and-both (even && few) (allBelow (length word) (isDigitAt word)) h .0) .1)
 
 module _ (word l : List ℕ) where
   none : isSame word (minus ∷ []) ≡ true → (bytes.Count 0 ≡ bytesIn word) × (l ≡ writtenIn word l)
