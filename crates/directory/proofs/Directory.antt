@@ -1,14 +1,14 @@
 -- Where the directory keeps its rule, the routines lie one behind another, each within the steps of the book and its bytes within the book.
 -- By the sums of the counts, which only grow. Where the book ends before an entry, the entry reads 0.
-use Prim.Native.Nat.{ℕ, zero, suc, _+_, _*_, _/_, _≤_, _<_}
+use Prim.Native.Nat.{ℕ, suc, _+_, _-_, _*_, _/_, _≤_, _<_}
 use mathlib.Core.Path.{_≡_}
 use mathlib.Core.List.{List}
 use native.Mathlib.Omega.{arith}
-use native.Mathlib.Decide.{ℕ-discrete}
 use lib.ListN.{length, List·getD-eq-default}
 use borrow.Author.Tests.{le-leb}
 use Rattle.numbers.specs.Numbers.{halfAt}
 use Rattle.numbers.specs.Below.{sumBelow}
+use Rattle.numbers.proofs.Below.{below-cut}
 use Rattle.kinds.specs.Steps.{stepBytes}
 use Rattle.layout.specs.Layout.{headerBytes, entryBytes, routinesOf, stepsOf, stepsFrom}
 use Rattle.directory.specs.Directory.{firstStep, stepCount, stepsBefore, EntriesFollow, routineFrom, routineStepsFrom}
@@ -26,13 +26,10 @@ begins-there s r h = rw (le-leb _ _ h)
 
 module _ (s : List ℕ) where
   pub before-grows : (a b : ℕ) → a ≤ b → stepsBefore s a ≤ stepsBefore s b
-  unfolding stepsBefore sumBelow
-  before-grows a zero h = let e : a ≡ 0 = omega arith in rw e (omega arith)
-  before-grows a (suc b) h =
-      elim (ℕ-discrete a (suc b)) [
-        | yes e ↦ rw e (omega arith)
-        | no n ↦ omega (arith, before-grows a b (omega arith))
-      ]
+  unfolding stepsBefore
+  before-grows a b h =
+      let e : a + (b - a) ≡ b = omega arith in
+      omega (arith, rw e at (below-cut (stepCount s) a (b - a)))
 
   module _ (entries : EntriesFollow s (routinesOf s)) (total : stepsBefore s (routinesOf s) ≡ stepsOf s) where
     pub routine-within : (r : ℕ) → r < routinesOf s → firstStep s r + stepCount s r ≤ stepsOf s

@@ -13,9 +13,10 @@ use Rattle.book.specs.Book.{stepsPart}
 use Rattle.book.specs.Accepted.{Accepted}
 use Rattle.book.proofs.Parts.{same-taken, same-routine}
 use Rattle.numbers.specs.Below.{sumBelow}
+use Rattle.numbers.proofs.Below.{below-same, below-cut}
 use Rattle.round.specs.Counting.{countBelow, stepsIn}
 use Rattle.round.proofs.Along.{All, Distinct}
-use Rattle.round.proofs.Counting.{below-same, below-cut, one, count-all}
+use Rattle.round.proofs.Counting.{one, count-all}
 use Rattle.round.proofs.Sums.{over-le, over-below}
 
 -- a step of a routine is the step at its place in the book

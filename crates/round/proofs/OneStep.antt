@@ -11,10 +11,11 @@ use borrow.Author.Tests.{eq-eqb, ne-eqb}
 use lib.Dec.{eqb}
 use Rattle.directory.specs.Directory.{stepCount}
 use Rattle.numbers.specs.Below.{sumBelow}
+use Rattle.numbers.proofs.Below.{below-same}
 use Rattle.round.specs.Counting.{countBelow, stepsIn}
 use Rattle.round.specs.Completed.{theStep}
 use Rattle.round.proofs.Along.{Distinct}
-use Rattle.round.proofs.Counting.{below-same, one}
+use Rattle.round.proofs.Counting.{one}
 use Rattle.round.proofs.Sums.{alone-le}
 
 count-none : (P : ℕ → Bool) (n : ℕ) → ((i : ℕ) → i < n → P i ≡ false) → countBelow P n ≡ 0

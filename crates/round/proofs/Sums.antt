@@ -9,9 +9,10 @@ use native.Mathlib.Omega.{arith}
 use lib.ListN.{length}
 use Rattle.numbers.proofs.Tests.{by-test}
 use Rattle.numbers.specs.Below.{sumBelow}
+use Rattle.numbers.proofs.Below.{without, without-other, below-without}
 use Rattle.round.specs.Counting.{sumOver, Among}
 use Rattle.round.specs.Actions.{kept}
-use Rattle.round.proofs.Counting.{without, without-other, below-without, one}
+use Rattle.round.proofs.Counting.{one}
 use Rattle.round.proofs.Along.{All, Distinct}
 use Rattle.round.proofs.Listing.{among-or}
 
