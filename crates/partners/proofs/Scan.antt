@@ -1,17 +1,16 @@
 -- The search for an opening's partner finds the marker at which, by the parse, the block behind the opening stops.
 -- The search goes by the ops, and the parse by the forms: they are compared row by row of the table, in which a step's op has its kind.
 -- From there on the search passes over a block's steps with the blocks in them, and is behind them as deep as before them.
-use Prim.Native.Nat.{ℕ, zero, suc, _+_, _-_, _<_}
-use mathlib.Core.Path.{_≡_, refl, sym, ap, _∙_, subst}
+use Prim.Native.Nat.{ℕ, suc, _+_, _-_}
+use mathlib.Core.Path.{_≡_, refl, sym, ap, _∙_}
 use mathlib.Core.Bool.{Bool, true, false}
-use mathlib.Core.List.{List, [], _∷_}
+use mathlib.Core.List.{List}
 use mathlib.Core.Logic.{_⊎_, inl, inr}
-use native.Mathlib.Nat.{add-zero, add-suc, zero-add, suc-add, add-sub-cancel}
+use native.Mathlib.Nat.{add-sub-cancel}
 use native.Mathlib.Numerals.{add-one}
 use native.Mathlib.Omega.{arith}
 use lib.Dec.{eqb}
 use lib.IntN.{ℤ}
-use lib.ListN.{getD}
 use borrow.Author.Tests.{ne-eqb}
 use Rattle.numbers.specs.Choice.{if_then_else_}
 use Rattle.numbers.specs.Numbers.{countOf}
@@ -24,9 +23,9 @@ use Rattle.kinds.specs.declared.Counts.{Counts}
 use Rattle.kinds.specs.declared.Row.{Row}
 use Rattle.forms.specs.declared.Form.{Form}
 use Rattle.forms.specs.declared.Form.the-variants.{Plain, Pausing, IfOpening, ElseMarker, WhileOpening, EndMarker}
-use Rattle.kinds.specs.Steps.{table, rowOf, opAt, fieldA, fieldB, fieldN, stepAt}
+use Rattle.kinds.specs.Steps.{table, opAt, fieldA, fieldB, fieldN, stepAt}
 use Rattle.forms.specs.Forms.{formOf}
-use Rattle.kinds.proofs.Readable.{rowAt, step-below, readable-step, step-readable}
+use Rattle.kinds.proofs.Rows.{Rows, _and_, step-holds, row-kind}
 use Rattle.blocks.specs.Blocks.{View, stands, seen, viewAt}
 use Rattle.partners.specs.Partners.{partnerBy, partnerOf}
 use Rattle.blocks.specs.Parse.{ParsedBlock, empty, more, ParsedStep, plain, pausing, ifOnly, ifElse, loop}
@@ -45,40 +44,6 @@ lookAt EndMarker on d p = if eqb d 0 then p else on (d - 1)
 kind-seen : (x : Step) {f : Form} → seen x ≡ stands f → (k : Kind) × (x ≡ step.Kind k) × (formOf k ≡ f)
 kind-seen (step.Kind k) h = (k, refl, cc)
 kind-seen step.Refused h = (Else, cc, cc)
-
--- a step that is read has its row's kind
-module _ (counts : Counts) (s : List ℕ) (i : ℕ) where
-  pub row-kind : {k : Kind} → stepAt counts s i ≡ step.Kind k → rowAt counts s i .4 ≡ k
-  row-kind e = cc (readable-step counts s i (step-below counts s i e) (step-readable counts s i e))
-
--- what holds of a row, and what holds of the rows behind it
-infixr 5 _and_
-pub _and_ : {A B : Type 0} → A → B → A × B
-x and y = (x, y)
-
-module _ (P : ℕ → Row → Type 0) where
-  -- in a list of rows whose first is that of op i, P holds of each row's op and of the row
-  abbrev pub Rows : ℕ → List Row → Type 0
-  Rows i [] = Unit {0}
-  Rows i (r ∷ rs) = P i r × Rows (suc i) rs
-
-  -- an op behind the list has the row of an unknown op, whose a has no value
-  row-holds :
-      (rs : List Row) (unknown : Row) (a i j : ℕ) →
-      Rows i rs → unknown .0 ≡ 0 → a < getD rs j unknown .0 → P (i + j) (getD rs j unknown)
-  row-holds [] unknown a i j x e h = absurd (omega arith)
-  row-holds (r ∷ rs) unknown a i zero x e h = rw add-zero (x .0)
-  row-holds (r ∷ rs) unknown a i (suc j) x e h = rw (add-suc i j, ← (suc-add i j)) (row-holds rs unknown a (suc i) j (x .1) e h)
-
-  -- what holds of the table's rows holds of the op and the row of a step that is read
-  pub step-holds :
-      (counts : Counts) (s : List ℕ) (i : ℕ) {k : Kind} →
-      Rows 0 (table counts (fieldA s i) (fieldB s i) (fieldN s i)) → stepAt counts s i ≡ step.Kind k → P (opAt s i) (rowAt counts s i)
-  unfolding rowOf
-  step-holds counts s i x e =
-      let rows = table counts (fieldA s i) (fieldB s i) (fieldN s i) in
-      subst (λ (op : ℕ). P op (rowAt counts s i)) (zero-add (opAt s i))
-      (row-holds rows _ (fieldA s i) 0 (opAt s i) x refl (step-readable counts s i e .aFits))
 
 module _ (on : ℕ → ℕ) (d p : ℕ) where
   -- the look at a row's op is the look at the form of its kind

@@ -14,7 +14,7 @@ use Rattle.kinds.specs.declared.Counts.{Counts}
 use Rattle.kinds.specs.declared.Row.{Row}
 use Rattle.kinds.specs.Steps.{table, fieldA, fieldB, fieldN, stepAt}
 use Rattle.kinds.proofs.Readable.{step-readable}
-use Rattle.partners.proofs.Scan.{Rows, _and_, step-holds, row-kind}
+use Rattle.kinds.proofs.Rows.{Rows, _and_, step-holds, row-kind}
 
 -- what the fields of a kind are
 abbrev pub FieldsRight : Counts → Kind → Type 0

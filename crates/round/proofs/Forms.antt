@@ -20,7 +20,8 @@ use Rattle.forms.specs.declared.Form.the-variants.{Plain, Pausing, IfOpening, E
 use Rattle.kinds.specs.Steps.{table, opAt, fieldA, fieldB, fieldN, stepAt}
 use Rattle.forms.specs.Forms.{formOf}
 use Rattle.blocks.specs.Blocks.{View, stands}
-use Rattle.partners.proofs.Scan.{Rows, _and_, step-holds, row-kind, kind-there}
+use Rattle.kinds.proofs.Rows.{Rows, _and_, step-holds, row-kind}
+use Rattle.partners.proofs.Scan.{kind-there}
 use Rattle.round.specs.Jumps.{sizeOf}
 use Rattle.round.proofs.Leads.{formAt}
 

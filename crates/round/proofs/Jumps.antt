@@ -23,7 +23,8 @@ use Rattle.forms.specs.Forms.{formOf}
 use Rattle.blocks.specs.Blocks.{View, stands}
 use Rattle.partners.specs.Partners.{opWhile}
 use Rattle.blocks.specs.Parse.{ParsedBlock, empty, more, ParsedStep, plain, pausing, ifOnly, ifElse, loop}
-use Rattle.partners.proofs.Scan.{Rows, _and_, step-holds, row-kind, kind-there, finds-partner}
+use Rattle.kinds.proofs.Rows.{Rows, _and_, step-holds, row-kind}
+use Rattle.partners.proofs.Scan.{kind-there, finds-partner}
 use Rattle.round.specs.Jumps.{sizeOf, pastPartner, openingBy, openingBefore, fromEnd}
 use Rattle.round.proofs.Leads.{formAt}
 

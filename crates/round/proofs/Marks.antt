@@ -13,7 +13,7 @@ use Rattle.kinds.specs.declared.Kind.the-variants.{Mark}
 use Rattle.kinds.specs.declared.Step.the-variants as step
 use Rattle.kinds.specs.declared.Counts.{Counts}
 use Rattle.kinds.specs.Steps.{rowOf, opAt, fieldA, fieldB, fieldN, stepAt}
-use Rattle.partners.proofs.Scan.{row-kind}
+use Rattle.kinds.proofs.Rows.{row-kind}
 use Rattle.layout.specs.Layout.{stepsOf, countsOf}
 use Rattle.book.specs.Book.{stepsPart}
 use Rattle.book.specs.Accepted.{Accepted}
