@@ -31,54 +31,37 @@ module _ (word : List ℕ) (n : Number) where
 returns : tie.Need-returns
 returns c = rw (empty _ (c .if1 .taken))
 
+-- behind a minus, and without one, the word says what the digits say
+behind-minus : (c : tie.After-decimal) → signedOf (c .before .before .before .before .before .before .args .word .now) ≡ below (c .decimal .result)
+behind-minus c = with-minus _ _ (c .before .before .if2 .taken) (c .decimal .ensures)
+
+no-minus : (c : tie.After-decimal2) → signedOf (c .before .before .before .before .before .args .word .now) ≡ above (c .decimal2 .result)
+no-minus c = without _ _ (c .before .if2 .left) (c .decimal2 .ensures)
+
 returns-2 : tie.Need-returns-2
-returns-2 c =
-    let l = c .before .before in
-    rw (with-minus _ _ (l .before .before .if2 .taken) (l .decimal .ensures), c .enum-told .given .1)
+returns-2 c = rw (behind-minus (c .before .before), c .enum-told .given .1)
 
 returns-3 : tie.Need-returns-3
-returns-3 c =
-    let l = c .before .before .before .before in
-    rw (
-      with-minus _ _ (l .before .before .if2 .taken) (l .decimal .ensures),
-      c .before .before .below .given .1,
-      lt-leb _ _ (c .if3 .taken),
-    )
+returns-3 c = rw (behind-minus (c .before .before .before .before), c .before .before .below .given .1, lt-leb _ _ (c .if3 .taken))
 
 returns-4 : tie.Need-returns-4
 returns-4 c =
-    let l = c .before .before .before .before .before in
-    rw (
-      with-minus _ _ (l .before .before .if2 .taken) (l .decimal .ensures),
-      c .before .before .before .below .given .1,
-      le-leb _ _ (c .before .if3 .left),
-      eq-eqb _ _ (c .if4 .taken),
-    )
+    let b = c .before .before .before in
+    rw (behind-minus (b .before .before), b .below .given .1, le-leb _ _ (c .before .if3 .left), eq-eqb _ _ (c .if4 .taken))
 
 returns-5 : tie.Need-returns-5
 returns-5 c =
-    let l = c .before .before .before .before .before in
-    rw (
-      with-minus _ _ (l .before .before .if2 .taken) (l .decimal .ensures),
-      c .before .before .before .below .given .1,
-      le-leb _ _ (c .before .if3 .left),
-      ne-eqb _ _ (c .if4 .left),
-    )
+    let b = c .before .before .before in
+    rw (behind-minus (b .before .before), b .below .given .1, le-leb _ _ (c .before .if3 .left), ne-eqb _ _ (c .if4 .left))
 
 returns-6 : tie.Need-returns-6
-returns-6 c =
-    let l = c .before .before in
-    rw (without _ _ (l .before .if2 .left) (l .decimal2 .ensures), c .enum-told2 .given .1)
+returns-6 c = rw (no-minus (c .before .before), c .enum-told2 .given .1)
 
 returns-7 : tie.Need-returns-7
-returns-7 c =
-    let l = c .before .before .before .before in
-    rw (without _ _ (l .before .if2 .left) (l .decimal2 .ensures), c .before .before .value .given .1, lt-ltb _ _ (c .if5 .taken))
+returns-7 c = rw (no-minus (c .before .before .before .before), c .before .before .value .given .1, lt-ltb _ _ (c .if5 .taken))
 
 returns-8 : tie.Need-returns-8
-returns-8 c =
-    let l = c .before .before .before .before in
-    rw (without _ _ (l .before .if2 .left) (l .decimal2 .ensures), c .before .before .value .given .1, le-ltb _ _ (c .if5 .left))
+returns-8 c = rw (no-minus (c .before .before .before .before), c .before .before .value .given .1, le-ltb _ _ (c .if5 .left))
 
 pub signed-spec : {M : Type 1} → statement M
 signed-spec =

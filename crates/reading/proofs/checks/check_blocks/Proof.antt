@@ -105,25 +105,24 @@ book-of l = l .before .before .before .args .book .now
 loop-holds : tie.Need-loop-holds Inv-loop μ-loop
 loop-holds c = (rw (first-begins (nestingAt _) _, first-begins (pausingAt _) _), search needs)
 
-returns : tie.Need-returns Inv-loop μ-loop
-returns c =
-    let call = c .before .before .before in
+-- a routine that is told 5 or 6 is the answer
+stopped :
+    (c : tie.After-verdict-of Inv-loop μ-loop) {k : ℕ} → let book = book-of (c .before .before .before) in
+    c .verdict-of .result .number ≡ k → (k ≡ 0 → ⊥) → (k ≡ 7 → ⊥) →
+    verdictOf (c .before .check-routine .result) ≡ (nestingVerdict book orElse pausingVerdict book)
+stopped c e none seven =
+    let call = c .before in
     let l = call .before .before in
     stops (book-of l) _ _ (verdictOf (l .loop .unpaused)) (call .before .loop-test .taken) (call .check-routine .ensures)
-    (ap (λ v. v .number) (sym (c .before .before .verdict-of .ensures)) ∙ c .if1 .taken)
-    (λ z. omega (arith, z)) (λ z. omega (arith, z))
+    (ap (λ v. v .number) (sym (c .verdict-of .ensures)) ∙ e) none seven
     ∙ l .loop .inv .0
     ∙ whole (book-of l) (l .before .routines .ensures .0)
 
+returns : tie.Need-returns Inv-loop μ-loop
+returns c = stopped (c .before .before) (c .if1 .taken) (λ z. omega (arith, z)) (λ z. omega (arith, z))
+
 returns-2 : tie.Need-returns-2 Inv-loop μ-loop
-returns-2 c =
-    let call = c .before .before .before .before .before in
-    let l = call .before .before in
-    stops (book-of l) _ _ (verdictOf (l .loop .unpaused)) (call .before .loop-test .taken) (call .check-routine .ensures)
-    (ap (λ v. v .number) (sym (c .before .before .before .before .verdict-of .ensures)) ∙ c .if2 .taken)
-    (λ z. omega (arith, z)) (λ z. omega (arith, z))
-    ∙ l .loop .inv .0
-    ∙ whole (book-of l) (l .before .routines .ensures .0)
+returns-2 c = stopped (c .before .before .before .before) (c .if2 .taken) (λ z. omega (arith, z)) (λ z. omega (arith, z))
 
 loop-again : tie.Need-loop-again Inv-loop μ-loop
 loop-again c =
