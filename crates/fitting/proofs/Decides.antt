@@ -70,7 +70,8 @@ unfolding signalsFit
 signals-right flags signals = each mostSignals _ (λ e l. or-else _ (not-less e signals) (fails (getD flags e false)))
 
 module _ (s : List ℕ) (g : Game) where
-  abbrev OneRight : ℕ → Routine → Type 0
+  -- what the clauses ask of routine r, where it is x
+  abbrev pub OneRight : ℕ → Routine → Type 0
   OneRight r x = RoutineRight s r x (In (g .listed) r) (In (g .starting) r)
 
   -- what is kept of a number r: below R a routine that is right, and nothing from there on
@@ -115,17 +116,17 @@ module _ (s : List ℕ) (g : Game) where
         countersBeyond = λ c l k. counters c k .1 l;
         signalsBeyond = λ e l k. signals e k l;
         entriesBeyond = (listed .beyond, starting .beyond);
-        stagesInRange = λ r l. one r l .stage;
-        placesInRange = λ r l. one r l .place;
+        stagesInRange = λ r l. one r l .0 .stage;
+        placesInRange = λ r l. one r l .0 .place;
         countersInRange = λ c l. counters c (omega (arith, range .fewCounters)) .0 l;
         lengthsInRange = (listed .short, starting .short);
         entriesInRange = (listed .entries, starting .entries);
-        listedStages = λ r l. one r l .listed;
-        unlistedStages = λ r l. one r l .unlisted;
+        listedStages = λ r l. one r l .0 .listed;
+        unlistedStages = λ r l. one r l .0 .unlisted;
         noneTwice = (listed .once, starting .once);
-        startStages = λ r v. one r (rw (v .2) at (starting .entries (v .0) (v .1))) .starting v;
-        leftWhereBegun = λ r l. one r l .begun;
-        leftElsewhere = λ r l. one r l .notBegun;
+        startStages = λ r v. one r (rw (v .2) at (starting .entries (v .0) (v .1))) .1 v;
+        leftWhereBegun = λ r l. one r l .0 .begun;
+        leftElsewhere = λ r l. one r l .0 .notBegun;
         sized = sized;
       }
 
@@ -136,17 +137,18 @@ module _ (s : List ℕ) (g : Game) where
       record { short = f .lengthsInRange .1; entries = f .entriesInRange .1; beyond = f .entriesBeyond .1; once = f .noneTwice .1 },
     )
 
-    fit-one : (r : ℕ) → r < routinesOf s → OneRight r (routineAt g r)
-    fit-one r l =
-        record {
-          stage = f .stagesInRange r l;
-          place = f .placesInRange r l;
-          listed = f .listedStages r l;
-          unlisted = f .unlistedStages r l;
-          starting = f .startStages r;
-          begun = f .leftWhereBegun r l;
-          notBegun = f .leftElsewhere r l;
-        }
+    pub fit-one : (r : ℕ) → r < routinesOf s → OneRight r (routineAt g r)
+    fit-one r l = (
+      record {
+        stage = f .stagesInRange r l;
+        place = f .placesInRange r l;
+        listed = f .listedStages r l;
+        unlisted = f .unlistedStages r l;
+        begun = f .leftWhereBegun r l;
+        notBegun = f .leftElsewhere r l;
+      },
+      f .startStages r,
+    )
 
     pub fit-parts : Parts (countsOf s)
     fit-parts = (

@@ -23,15 +23,18 @@ UnderWay k = (k ≡ continuing) ⊎ (k ≡ rested)
 abbrev pub NotUnderWay : ℕ → Type 0
 NotUnderWay k = (k ≡ notStarted) ⊎ (k ≡ stopped)
 
--- what the test of routine r says of it; it is listed if L, and is to start if S
-pub record RoutineRight (s : List ℕ) (r : ℕ) (x : Routine) (L S : Type 0) : Type 0 where
-  pub stage : x .stage ≤ stopped
-  pub place : x .place ≤ stepCount s r
-  pub listed : UnderWay (x .stage) → L
-  pub unlisted : NotUnderWay (x .stage) → L → ⊥
-  pub starting : S → x .stage ≡ notStarted
-  pub begun : x .begun ≡ true → MayBeLeft (routineStep s r (x .place)) (x .left)
-  pub notBegun : x .begun ≡ false → x .left ≡ 0
+-- what the test of routine r says of its stage k, its place p, its flag b for begun and its count left n; it is listed if L
+pub record StandsRight (s : List ℕ) (r k p : ℕ) (b : Bool) (n : ℕ) (L : Type 0) : Type 0 where
+  pub stage : k ≤ stopped
+  pub place : p ≤ stepCount s r
+  pub listed : UnderWay k → L
+  pub unlisted : NotUnderWay k → L → ⊥
+  pub begun : b ≡ true → MayBeLeft (routineStep s r p) n
+  pub notBegun : b ≡ false → n ≡ 0
+
+-- and of the whole routine, which is to start if S
+abbrev pub RoutineRight : List ℕ → ℕ → Routine → Type 0 → Type 0 → Type 0
+RoutineRight s r x L S = StandsRight s r (x .stage) (x .place) (x .begun) (x .left) L × (S → x .stage ≡ notStarted)
 
 apart : (k : ℕ) → UnderWay k → NotUnderWay k → ⊥
 apart k (inl p) (inl i) = omega arith
@@ -77,17 +80,9 @@ module _ (s : List ℕ) (r : ℕ) (x : Routine) where
       let begun = Iff·trans (less (x .left) (timedCount here)) (timed here (x .left)) in
       let all = both start (choice (x .begun) Iff·rfl Iff·rfl begun (equal (x .left) 0)) in
       Iff·trans all (
-        λ h.
-            record {
-              stage = h .0 .0 .1 .0;
-              place = h .0 .0 .0;
-              listed = h .0 .0 .1 .1;
-              unlisted = h .0 .0 .1 .2;
-              starting = h .0 .1 .0;
-              begun = h .1 .0;
-              notBegun = h .1 .1;
-            },
-        λ h. (((h .place, (h .stage, h .listed, h .unlisted)), (h .starting, λ _. refl)), (h .begun, h .notBegun)),
+        λ (((place, (stage, listed, unlisted)), (start, _)), (begun, notBegun)).
+            (record { stage = stage; place = place; listed = listed; unlisted = unlisted; begun = begun; notBegun = notBegun }, start),
+        λ (h, start). (((h .place, (h .stage, h .listed, h .unlisted)), (start, λ _. refl)), (h .begun, h .notBegun)),
       )
 
 -- no flag is set

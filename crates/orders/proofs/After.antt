@@ -30,7 +30,7 @@ module _ (s : List ℕ) (g : Game) (kind n : ℕ) where
   unfolding ordered
   order-fits e =
       let (a, f, h) = told-right (order-tells s g kind n) (ap (λ v. v .number) e) in
-      rw e (obeyed-fits s g f kind n h)
+      rw e (obeyed-fits s g f (a .laid .counts) kind n h)
 
   -- whether the game fits is as it was, after a refusal too
   pub order-keeps : fitsBook s (ordered s g kind n .game) ≡ fitsBook s g
@@ -40,7 +40,7 @@ module _ (s : List ℕ) (g : Game) (kind n : ℕ) where
         | yes e ↦
             let (a, f, h) = told-right (order-tells s g kind n) e in
             let fitting = fits-decides s (a .laid .counts) in
-            rw (eq-eqb _ _ e) (fitting (obeyed g kind n) .1 (obeyed-fits s g f kind n h) ∙ sym (fitting g .1 f))
+            rw (eq-eqb _ _ e) (fitting (obeyed g kind n) .1 (obeyed-fits s g f (a .laid .counts) kind n h) ∙ sym (fitting g .1 f))
         | no m ↦ ap (fitsBook s) (game-lent (orderVerdict s g kind n) (obeyed g kind n) g m)
       ]
 
@@ -51,7 +51,7 @@ module _ (s : List ℕ) (g : Game) (kind n : ℕ) where
         | yes e ↦
             let (a, f, h) = told-right (order-tells s g kind n) e in
             let first = right-given s g kind n (a, f, h) in
-            let second = right-given s (obeyed g kind n) kind n (a, obeyed-fits s g f kind n h, h) in
+            let second = right-given s (obeyed g kind n) kind n (a, obeyed-fits s g f (a .laid .counts) kind n h, h) in
             ap (λ o. ordered s (o .game) kind n) first ∙ second ∙ ap given (obeyed-again s g f kind n) ∙ sym first
         | no m ↦ ap (λ x. ordered s x kind n) (game-lent (orderVerdict s g kind n) (obeyed g kind n) g m)
       ]

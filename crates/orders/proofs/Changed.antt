@@ -1,39 +1,24 @@
--- A game with other flags of its routines, another list of those to start and other signals to broadcast fits as before, if these fit.
--- Clause by clause: what the others speak of is as it was.
+-- A game that fits still does once a routine, a counter or those to start give way to ones that are right, or a signal is to be broadcast.
+-- One law for each of these parts: what fitting asks of the others is asked of what is as it was.
 use Prim.Native.Nat.{ℕ, _<_, _≤_}
-use mathlib.Core.Path.{_≡_, refl}
-use mathlib.Core.Bool.{Bool, false}
+use mathlib.Core.Path.{_≡_, _∙_}
+use mathlib.Core.Bool.{true, false}
 use mathlib.Core.List.{List}
-use lib.ListN.{length, getD}
-use Rattle.layout.specs.Layout.{mostRoutines, mostSignals, routinesOf, signalsOf}
+use native.Mathlib.Omega.{arith}
+use lib.ListN.{length, getD, set, length-set}
+use lib.IntN.{ℤ, pos}
+use Rattle.numbers.specs.Numbers.{CounterInRange}
+use Rattle.layout.specs.Layout.{routinesOf, signalsOf, countersOf}
+use Rattle.book.specs.Accepted.{CountsInRange}
 use Rattle.game.specs.declared.Routine.{Routine}
 use Rattle.lines.specs.declared.Line.{Line}
 use Rattle.game.specs.declared.Game.{Game}
 use Rattle.lines.specs.Lines.{mostEntries}
-use Rattle.game.specs.Game.{notStarted, blank, routineAt}
+use Rattle.game.specs.Game.{notStarted, blank, routineAt, withRoutine, withCounter, withStarting, withBroadcast}
 use Rattle.fitting.specs.Fits.{In, Fits}
 use Rattle.fitting.proofs.Lists.{LineRight}
-use Rattle.fitting.proofs.Decides.{fit-lists}
-
-abbrev pub changed : Game → List Routine → Line → List Bool → Game
-changed g routines starting broadcast =
-    record {
-      counts = g .counts;
-      routines = routines;
-      counters = g .counters;
-      listed = g .listed;
-      starting = starting;
-      broadcast = broadcast;
-    }
-
--- as many routines, that differ in their flags only, and not beyond R
-pub record SameButFlags (s : List ℕ) (g : Game) (routines : List Routine) : Type 0 where
-  pub sized : length routines ≡ mostRoutines
-  pub beyond : (r : ℕ) → routinesOf s ≤ r → r < mostRoutines → getD routines r blank ≡ blank
-  pub stage : (r : ℕ) → getD routines r blank .stage ≡ routineAt g r .stage
-  pub place : (r : ℕ) → getD routines r blank .place ≡ routineAt g r .place
-  pub left : (r : ℕ) → getD routines r blank .left ≡ routineAt g r .left
-  pub begun : (r : ℕ) → getD routines r blank .begun ≡ routineAt g r .begun
+use Rattle.fitting.proofs.Decides.{CounterRight, OneRight, SlotRight, parts-fit, fit-lists, fit-parts}
+use Rattle.orders.proofs.Stores.{set-each}
 
 -- what the clauses ask of those to start
 pub record Starts (s : List ℕ) (g : Game) (l : Line) : Type 0 where
@@ -41,50 +26,49 @@ pub record Starts (s : List ℕ) (g : Game) (l : Line) : Type 0 where
   pub line : LineRight l (routinesOf s)
   pub starting : (r : ℕ) → In l r → routineAt g r .stage ≡ notStarted
 
--- and of the signals to broadcast
-pub record Signals (s : List ℕ) (flags : List Bool) : Type 0 where
-  pub sized : length flags ≡ mostSignals
-  pub beyond : (e : ℕ) → signalsOf s ≤ e → e < mostSignals → getD flags e false ≡ false
+pub same-starts : {s : List ℕ} {g : Game} → Fits s g → Starts s g (g .starting)
+same-starts {s} {g} f = record { sized = f .sized .starting; line = fit-lists s g f .1; starting = f .startStages }
 
-module _ {s : List ℕ} {g : Game} (f : Fits s g) where
-  pub same-flags : SameButFlags s g (g .routines)
-  same-flags =
-      record {
-        sized = f .sized .routines;
-        beyond = f .routinesBeyond;
-        stage = λ r. refl;
-        place = λ r. refl;
-        left = λ r. refl;
-        begun = λ r. refl;
-      }
+-- an array all of whose entries are right, once a right one is put in place n
+stored :
+    {A : Type 0} (P : ℕ → A → Type 0) (l : List A) (n : ℕ) (y d : A) {size : ℕ} → length l ≡ size → n < size → P n y →
+    ((i : ℕ) → i < size → P i (getD l i d)) → (length (set l n y) ≡ size) × ((i : ℕ) → i < size → P i (getD (set l n y) i d))
+stored P l n y d {size} z h right all =
+    (length-set l n y ∙ z, set-each l n y d (λ i a. i < size → P i a) (omega arith) (λ k. right) (λ i m. all i))
 
-  pub same-starts : Starts s g (g .starting)
-  same-starts = record { sized = f .sized .starting; line = fit-lists s g f .1; starting = f .startStages }
-
-  pub same-signals : Signals s (g .broadcast)
-  same-signals = record { sized = f .sized .broadcast; beyond = f .signalsBeyond }
-
-  pub changed-fits :
-      {routines : List Routine} {l : Line} {flags : List Bool} →
-      SameButFlags s g routines → Starts s g l → Signals s flags → Fits s (changed g routines l flags)
-  changed-fits x t b =
+module _ {s : List ℕ} {g : Game} (range : CountsInRange s) (f : Fits s g) where
+  pub routine-fits : (n : ℕ) (x : Routine) → n < routinesOf s → OneRight s g n x → Fits s (withRoutine g n x)
+  routine-fits n x below right =
       let z = f .sized in
-      record {
-        numbers = f .numbers;
-        routinesBeyond = x .beyond;
-        countersBeyond = f .countersBeyond;
-        signalsBeyond = b .beyond;
-        entriesBeyond = (f .entriesBeyond .0, t .line .beyond);
-        stagesInRange = λ r. rw (x .stage r) (f .stagesInRange r);
-        placesInRange = λ r. rw (x .place r) (f .placesInRange r);
-        countersInRange = f .countersInRange;
-        lengthsInRange = (f .lengthsInRange .0, t .line .short);
-        entriesInRange = (f .entriesInRange .0, t .line .entries);
-        listedStages = λ r. rw (x .stage r) (f .listedStages r);
-        unlistedStages = λ r. rw (x .stage r) (f .unlistedStages r);
-        noneTwice = (f .noneTwice .0, t .line .once);
-        startStages = λ r. rw (x .stage r) (t .starting r);
-        leftWhereBegun = λ r. rw (x .begun r, x .place r, x .left r) (f .leftWhereBegun r);
-        leftElsewhere = λ r. rw (x .begun r, x .left r) (f .leftElsewhere r);
-        sized = record { routines = x .sized; counters = z .counters; listed = z .listed; starting = t .sized; broadcast = b .sized };
-      }
+      let (others, all) = fit-parts s g f in
+      let slot : SlotRight s g (routinesOf s) n x = (λ h. right, λ out. absurd (omega arith)) in
+      let (size, routines) = stored (SlotRight s g (routinesOf s)) (g .routines) n x blank (z .routines) (omega arith) slot all in
+      parts-fit s (withRoutine g n x) range (others, routines)
+      (record { routines = size; counters = z .counters; listed = z .listed; starting = z .starting; broadcast = z .broadcast })
+
+  pub counter-fits : (c : ℕ) (v : ℤ) → c < countersOf s → CounterInRange v → Fits s (withCounter g c v)
+  counter-fits c v below right =
+      let z = f .sized in
+      let (((lists, all), signals), routines) = fit-parts s g f in
+      let slot : CounterRight (countersOf s) c v = (λ h. right, λ out. absurd (omega arith)) in
+      let (size, counters) = stored (CounterRight (countersOf s)) (g .counters) c v (pos 0) (z .counters) (omega arith) slot all in
+      parts-fit s (withCounter g c v) range (((lists, counters), signals), routines)
+      (record { routines = z .routines; counters = size; listed = z .listed; starting = z .starting; broadcast = z .broadcast })
+
+  pub broadcast-fits : (e : ℕ) → e < signalsOf s → Fits s (withBroadcast g (set (g .broadcast) e true))
+  broadcast-fits e below =
+      let z = f .sized in
+      let ((others, all), routines) = fit-parts s g f in
+      let (size, signals) =
+      stored (λ i b. signalsOf s ≤ i → b ≡ false) (g .broadcast) e true false (z .broadcast) (omega arith) (λ out. absurd (omega arith)) all
+      in
+      parts-fit s (withBroadcast g (set (g .broadcast) e true)) range ((others, signals), routines)
+      (record { routines = z .routines; counters = z .counters; listed = z .listed; starting = z .starting; broadcast = size })
+
+  pub starting-fits : (l : Line) → Starts s g l → Fits s (withStarting g l)
+  starting-fits l t =
+      let z = f .sized in
+      let ((((listed, starting), counters), signals), all) = fit-parts s g f in
+      parts-fit s (withStarting g l) range
+      ((((listed, t .line), counters), signals), λ r k. (λ h. (all r k .0 h .0, t .starting r), all r k .1))
+      (record { routines = z .routines; counters = z .counters; listed = z .listed; starting = t .sized; broadcast = z .broadcast })

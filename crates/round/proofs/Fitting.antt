@@ -16,10 +16,9 @@ use Rattle.book.specs.Accepted.{Accepted}
 use Rattle.game.specs.declared.Game.{Game}
 use Rattle.game.specs.Game.{withCounter}
 use Rattle.fitting.specs.Fits.{Fits}
-use Rattle.fitting.proofs.Decides.{CounterRight, parts-fit, fit-parts}
 use Rattle.orders.specs.Orders.{orderCount, obeyed}
+use Rattle.orders.proofs.Changed.{counter-fits}
 use Rattle.orders.proofs.Obeyed.{obeyed-fits}
-use Rattle.orders.proofs.Stores.{set-each}
 use Rattle.round.specs.declared.Effect.{Effect}
 use Rattle.round.specs.declared.Effect.the-variants.{Nothing, Mark, Put, Add, Give, GiveNumber, Start, Stop, Suspend, Resume}
 use Rattle.round.specs.State.{State, withGame, withNumbers}
@@ -55,12 +54,6 @@ module _ {book : List ℕ} {s : State} (h : Sound book s) where
   pub game-sound : (g : Game) → Fits book g → Sound book (withGame s g)
   game-sound g f = record { fits = f; present = h .present; endSignals = h .endSignals; numbers = h .numbers }
 
-  -- an order on what the book has
-  order-sound : (kind n : ℕ) → n < orderCount (countsOf book) kind → Sound book (withGame s (obeyed (s .game) kind n))
-  order-sound kind n below =
-      let g = s .game in
-      game-sound (obeyed g kind n) (obeyed-fits book g (h .fits) kind n below)
-
   -- a signal is given, and these are the numbers then
   given-sound : (e : ℕ) (l : List (ℕ × ℤ)) (over : Bool) → NumbersRight l → Sound book (withNumbers (given s e) l over)
   given-sound e l over numbers =
@@ -71,35 +64,22 @@ module _ {book : List ℕ} {s : State} (h : Sound book s) where
         numbers = numbers;
       }
 
-  -- a counter of the book gets a content in range
-  counter-sound :
-      Accepted book → (c : ℕ) (v : ℤ) → c < countersOf book → CounterInRange v → Sound book (withGame s (withCounter (s .game) c v))
-  counter-sound a c v below inside =
-      let z = h .fits .sized in
-      let l = s .game .counters in
-      let there : c < length l = omega (arith, z .counters, a .laid .counts .fewCounters) in
-      let (((lists, counters), signals), routines) = fit-parts book (s .game) (h .fits) in
-      let changed =
-      set-each l c v (pos 0) (λ i w. i < mostCounters → CounterRight (countersOf book) i w) there
-      (λ k. (λ b. inside, λ out. absurd (omega arith))) (λ i m. counters i)
-      in
-      game-sound (withCounter (s .game) c v)
-      (parts-fit book (withCounter (s .game) c v) (a .laid .counts) (((lists, changed), signals), routines)
-      (record {
-        routines = z .routines;
-        counters = length-set l c v ∙ z .counters;
-        listed = z .listed;
-        starting = z .starting;
-        broadcast = z .broadcast;
-      }))
-
 module _ (book : List ℕ) (a : Accepted book) where
+  module _ {s : State} (h : Sound book s) where
+    -- an order on what the book has
+    order-sound : (kind n : ℕ) → n < orderCount (countsOf book) kind → Sound book (withGame s (obeyed (s .game) kind n))
+    order-sound kind n below = game-sound h _ (obeyed-fits book (s .game) (h .fits) (a .laid .counts) kind n below)
+
+    -- a counter of the book gets a content in range
+    counter-sound : (c : ℕ) (v : ℤ) → c < countersOf book → CounterInRange v → Sound book (withGame s (withCounter (s .game) c v))
+    counter-sound c v below inside = game-sound h _ (counter-fits (a .laid .counts) (h .fits) c v below inside)
+
   pub effect-sound : (s : State) (e : Effect) → Right (countsOf book) s e → Sound book s → Sound book (effectOn e s)
   unfolding effectOn obeyed
   effect-sound s Nothing nothing h = h
   effect-sound s (Mark n) mark h = h
-  effect-sound s (Put c v) (put below inside) h = counter-sound h a c v below (inside (sound-ranged h))
-  effect-sound s (Add c v) (add below inside) h = counter-sound h a c (v .sum) below inside
+  effect-sound s (Put c v) (put below inside) h = counter-sound h c v below (inside (sound-ranged h))
+  effect-sound s (Add c v) (add below inside) h = counter-sound h c (v .sum) below inside
   effect-sound s (Give e) (give below) h = given-sound h e (s .numbers) (s .tooMany) (h .numbers)
   effect-sound s (GiveNumber e v) (giveNumber below inside) h =
       by-test (Sound book) (ltb (length (s .numbers)) mostNumbers)

@@ -6,14 +6,13 @@ use mathlib.Core.Bool.{true}
 use mathlib.Core.List.{List}
 use mathlib.Core.Logic.{_⊎_, inl, inr}
 use native.Mathlib.Omega.{arith}
-use lib.ListN.{length, length-set}
+use lib.ListN.{length-set}
 use Rattle.blocks.proofs.Views.{standing-below}
-use Rattle.layout.specs.Layout.{mostRoutines, routinesOf, countsOf}
+use Rattle.layout.specs.Layout.{routinesOf, countsOf}
 use Rattle.directory.specs.Directory.{routineSteps}
 use Rattle.book.specs.Accepted.{Accepted}
-use Rattle.game.specs.Game.{notStarted, continuing, ended, stopped, blank, routineAt, withRoutine}
-use Rattle.fitting.proofs.Decides.{SlotRight, parts-fit, fit-parts}
-use Rattle.orders.proofs.Stores.{set-each}
+use Rattle.game.specs.Game.{notStarted, continuing, ended, stopped, routineAt, withRoutine}
+use Rattle.orders.proofs.Changed.{routine-fits}
 use Rattle.round.specs.declared.Ending.{Ending}
 use Rattle.round.specs.declared.Ending.the-variants.{Ended, Rested, Missed, Continued}
 use Rattle.round.specs.declared.Position.{Position}
@@ -76,36 +75,19 @@ module _ (book : List ℕ) (a : Accepted book) (r : ℕ) (below : r < routinesOf
       Sound book (withGame s (withRoutine (s .game) r (placed (routineAt (s .game) r) stage y)))
   placed-sound stage y before low high stand =
       let f = h .fits in
-      let z = f .sized in
       let g = s .game in
       let x = placed (routineAt g r) stage y in
-      let there : r < length (g .routines) = omega (arith, z .routines, a .laid .counts .fewRoutines) in
-      let (others, routines) = fit-parts book g f in
-      let moved =
-      set-each (g .routines) r x blank (λ i w. i < mostRoutines → SlotRight book g (routinesOf book) i w) there
-      (λ k. (
-        λ l.
-            record {
-              stage = omega arith;
-              place = omega (arith, stand .inside, size-same book a r below);
-              listed = λ way. f .listedStages r below (inl before);
-              unlisted = λ out. absurd (not-unlisted low high out);
-              starting = λ due. absurd (omega (arith, f .startStages r due, before));
-              begun = stand .whereBegun;
-              notBegun = stand .elsewhere;
-            },
-        λ out. absurd (omega arith),
+      game-sound h (withRoutine g r x) (routine-fits (a .laid .counts) f r x below (
+        record {
+          stage = omega arith;
+          place = omega (arith, stand .inside, size-same book a r below);
+          listed = λ way. f .listedStages r below (inl before);
+          unlisted = λ out. absurd (not-unlisted low high out);
+          begun = stand .whereBegun;
+          notBegun = stand .elsewhere;
+        },
+        λ due. absurd (omega (arith, f .startStages r due, before)),
       ))
-      (λ i m. routines i)
-      in
-      game-sound h (withRoutine g r x) (parts-fit book (withRoutine g r x) (a .laid .counts) (others, moved)
-      (record {
-        routines = length-set (g .routines) r x ∙ z .routines;
-        counters = z .counters;
-        listed = z .listed;
-        starting = z .starting;
-        broadcast = z .broadcast;
-      }))
 
 module _ (book : List ℕ) (a : Accepted book) where
   module _ (r : ℕ) (below : r < routinesOf book) where
