@@ -18,8 +18,8 @@ use Rattle.fitting.specs.Fits.{Fits}
 use Rattle.orders.proofs.Stores.{entry-set, same-at}
 use Rattle.round.specs.Actions.{kept, each, positionOf, inStage1, inStage4, getsStopped, staysListed, withoutOrders, atStart}
 use Rattle.round.proofs.Along.{All}
-use Rattle.round.proofs.Entries.{all-kept, kept-short, joined-below, joined-short}
-use Rattle.round.proofs.Listing.{entries-same}
+use Rattle.round.proofs.Entries.{all-kept, kept-short}
+use Rattle.round.proofs.Listing.{entries-same, joined-below, joined-short}
 use Rattle.round.specs.Counting.{Among}
 
 -- what a change of one routine keeps, the same change of several keeps

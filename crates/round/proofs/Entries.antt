@@ -1,30 +1,20 @@
--- The entries of a list: one that is pushed, and some that are appended, come behind those that it had, if it has room. In a game that
--- fits there is room for those to start behind those listed: they are different routines, as those to start are in stage 0 and those
--- listed are not.
-use Prim.Native.Nat.{ℕ, suc, _+_, _-_, _<_, _≤_}
-use mathlib.Core.Path.{_≡_, refl, sym, _∙_}
+-- The entries of a list: one that is pushed, and some that are appended, come behind those that it had, if it has room;
+-- in a list that is right they are routines of the book, as many as its length says.
+use Prim.Native.Nat.{ℕ, suc, _+_, _<_, _≤_}
+use mathlib.Core.Path.{_≡_, sym, _∙_}
 use mathlib.Core.Bool.{Bool}
 use mathlib.Core.List.{List, [], _∷_, _++_, append-nil, append-assoc}
-use mathlib.Core.Logic.{inl}
 use native.Mathlib.Omega.{arith}
 use native.Mathlib.Numerals.{add-one}
-use borrow.Author.Tests.{lt-ltb, ltb-true, ltb-false}
-use lib.Dec.{ltb}
-use lib.ListN.{length, getD, length-set, length-append}
+use borrow.Author.Tests.{lt-ltb}
+use lib.ListN.{length, getD, length-set}
 use lib.Seq.{take-suc-set, length-take-le, getD-take}
-use Rattle.numbers.specs.Choice.{if_then_else_}
 use Rattle.numbers.proofs.Tests.{by-test}
-use Rattle.layout.specs.Layout.{routinesOf}
-use Rattle.book.specs.Accepted.{CountsInRange}
 use Rattle.lines.specs.declared.Line.{Line}
-use Rattle.game.specs.declared.Game.{Game}
 use Rattle.lines.specs.Lines.{mostEntries, itemAt, entriesOf, pushed, appended}
-use Rattle.fitting.specs.Fits.{Fits}
 use Rattle.fitting.proofs.Lists.{joined, LineRight, used-all}
-use Rattle.fitting.proofs.Decides.{fit-lists}
-use Rattle.fitting.proofs.Room.{few}
 use Rattle.round.specs.Actions.{kept}
-use Rattle.round.proofs.Along.{All, all-append}
+use Rattle.round.proofs.Along.{All}
 
 module _ (P : ℕ → Type 0) where
   all-of : (rs : List ℕ) → ((i : ℕ) → i < length rs → P (getD rs i 0)) → All P rs
@@ -77,54 +67,3 @@ module _ (l : Line) {routines : ℕ} (t : LineRight l routines) (z : length (l .
       all-of (λ r. r < routines) (entriesOf l) (λ i h.
       let k : i < l .len = omega (arith, entries-length) in
       rw (item-at l (t .short) i k) (t .entries i k))
-
-module _ (book : List ℕ) (g : Game) (range : CountsInRange book) (f : Fits book g) where
-  -- entry i of the two lists, those to start behind those listed
-  abbrev both : ℕ → ℕ
-  both i = if ltb i (g .listed .len) then itemAt (g .listed) i else itemAt (g .starting) (i - g .listed .len)
-
-  pub apart : (i j : ℕ) → i < g .listed .len → j < g .starting .len → itemAt (g .listed) i ≡ itemAt (g .starting) j → ⊥
-  apart i j h k e =
-      let r = itemAt (g .listed) i in
-      f .unlistedStages r (f .entriesInRange .0 i h) (inl (f .startStages r (j, k, sym e))) (i, h, refl)
-
-  lists-short : g .listed .len + g .starting .len ≤ routinesOf book
-  lists-short =
-      let m = g .listed .len in
-      let (a, b) = fit-lists book g f in
-      few (routinesOf book) (m + g .starting .len) both
-      (λ i h.
-      by-test (λ v. v < routinesOf book) (ltb i m)
-      (λ e. a .entries i (ltb-true i m e))
-      (λ e. b .entries (i - m) (omega (arith, ltb-false i m e))))
-      (λ i j h k.
-      by-test (λ v. v ≡ both j → ⊥) (ltb i m)
-      (λ e.
-      by-test (λ w. itemAt (g .listed) i ≡ w → ⊥) (ltb j m)
-      (λ d. a .once i j h (ltb-true j m d))
-      (λ d. apart i (j - m) (ltb-true i m e) (omega (arith, ltb-false j m d))))
-      (λ e.
-      by-test (λ w. itemAt (g .starting) (i - m) ≡ w → ⊥) (ltb j m)
-      (λ d. absurd (omega (arith, ltb-false i m e, ltb-true j m d)))
-      (λ d. b .once (i - m) (j - m) (omega (arith, ltb-false i m e)) (omega (arith, ltb-false j m d)))))
-
-  -- action 1: those to start come behind those listed
-  pub joined-entries : entriesOf (appended (g .listed) (entriesOf (g .starting))) ≡ entriesOf (g .listed) ++ entriesOf (g .starting)
-  joined-entries =
-      appended-entries (g .listed) (entriesOf (g .starting)) (f .sized .listed)
-      (omega (arith, lists-short, range .fewRoutines, entries-length (g .starting) (fit-lists book g f .1) (f .sized .starting)))
-
-  pub joined-below : All (λ r. r < routinesOf book) (entriesOf (appended (g .listed) (entriesOf (g .starting))))
-  joined-below =
-      let (a, b) = fit-lists book g f in
-      rw joined-entries
-      (all-append (λ r. r < routinesOf book) (entriesOf (g .listed)) (entriesOf (g .starting))
-      (entries-below (g .listed) a (f .sized .listed))
-      (entries-below (g .starting) b (f .sized .starting)))
-
-  pub joined-short : length (entriesOf (appended (g .listed) (entriesOf (g .starting)))) ≤ mostEntries
-  joined-short =
-      let (a, b) = fit-lists book g f in
-      let m = entries-length (g .listed) a (f .sized .listed) in
-      let n = entries-length (g .starting) b (f .sized .starting) in
-      rw (joined-entries, length-append, m, n) (omega (arith, lists-short, range .fewRoutines))

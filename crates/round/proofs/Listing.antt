@@ -1,5 +1,6 @@
 -- Routines among some: of two lists joined, of those that pass a test, and of a list's entries. So a list to which different routines of
--- the book are appended, from none on, is right: its entries are those routines, and nothing stands behind its length.
+-- the book are appended, from none on, is right: its entries are those routines, and nothing stands behind its length. In a game that fits
+-- those listed and those to start are different routines, so there is room for both in one list.
 use Prim.Native.Nat.{ℕ, zero, suc, _+_, _<_, _≤_}
 use mathlib.Core.Path.{_≡_, refl, sym, _∙_, ap, subst}
 use mathlib.Core.Bool.{Bool, true}
@@ -9,17 +10,22 @@ use native.Mathlib.Nat.{add-zero}
 use native.Mathlib.Omega.{arith}
 use native.Mathlib.Decide.{ℕ-discrete}
 use borrow.Author.Tests.{lt-ltb}
-use lib.ListN.{length, getD, length-set, getD-replicate}
+use lib.ListN.{length, getD, length-set, length-append, getD-replicate}
 use lib.Seq.{getD-set-other}
 use Rattle.numbers.proofs.Tests.{clash, by-test}
+use Rattle.layout.specs.Layout.{routinesOf}
+use Rattle.book.specs.Accepted.{CountsInRange}
 use Rattle.lines.specs.declared.Line.{Line}
+use Rattle.game.specs.declared.Game.{Game}
 use Rattle.lines.specs.Lines.{mostEntries, empty, itemAt, entriesOf, appended}
-use Rattle.fitting.specs.Fits.{In}
+use Rattle.fitting.specs.Fits.{In, Fits}
 use Rattle.fitting.proofs.Lists.{joined, LineRight}
+use Rattle.fitting.proofs.Decides.{fit-lists}
+use Rattle.fitting.proofs.Room.{few}
 use Rattle.round.specs.Actions.{kept}
 use Rattle.round.proofs.Histories.{somewhere-append}
-use Rattle.round.proofs.Along.{All, among-all, Distinct}
-use Rattle.round.proofs.Entries.{appended-entries, item-at, entries-length}
+use Rattle.round.proofs.Along.{All, all-append, among-all, Distinct}
+use Rattle.round.proofs.Entries.{appended-entries, item-at, entries-length, entries-below}
 use Rattle.round.specs.Counting.{Among}
 
 pub among-or : (r : ℕ) (rs : List ℕ) → Among r rs ⊎ (Among r rs → ⊥)
@@ -87,6 +93,11 @@ places-distinct (r ∷ rs) once = (
   places-distinct rs (λ i j l h. once (suc i) (suc j) (omega arith) (omega arith)),
 )
 
+-- so different numbers below n are at most n
+distinct-few : (n : ℕ) (rs : List ℕ) → Distinct rs → All (λ r. r < n) rs → length rs ≤ n
+distinct-few n rs d below =
+    few n (length rs) (λ i. getD rs i 0) (λ i h. among-all (λ r. r < n) (getD rs i 0) rs below (among-at rs i h)) (distinct-places rs d)
+
 -- the entries of a list
 module _ (l : Line) {routines : ℕ} (t : LineRight l routines) (z : length (l .items) ≡ mostEntries) where
   pub in-among : (r : ℕ) → In l r → Among r (entriesOf l)
@@ -153,3 +164,41 @@ module _ (rs : List ℕ) (short : length rs ≤ mostEntries) where
         beyond = λ i h. filled .beyond i (omega arith);
         once = λ i j h k e. distinct-places rs d i j h (omega arith) (sym (at i (omega arith)) ∙ e ∙ at j k);
       }
+
+-- those listed and those to start, as action 1 joins them
+module _ (book : List ℕ) (g : Game) (range : CountsInRange book) (f : Fits book g) where
+  abbrev both : List ℕ
+  both = entriesOf (g .listed) ++ entriesOf (g .starting)
+
+  both-below : All (λ r. r < routinesOf book) both
+  both-below =
+      let (l, s) = fit-lists book g f in
+      all-append (λ r. r < routinesOf book) (entriesOf (g .listed)) (entriesOf (g .starting))
+      (entries-below (g .listed) l (f .sized .listed)) (entries-below (g .starting) s (f .sized .starting))
+
+  -- those to start are in stage 0, and those listed are not
+  both-distinct : Distinct both
+  both-distinct =
+      let (l, s) = fit-lists book g f in
+      distinct-joined (entriesOf (g .listed)) (entriesOf (g .starting)) (entries-distinct (g .listed) l (f .sized .listed))
+      (entries-distinct (g .starting) s (f .sized .starting)) (λ r h k.
+      let below = among-all (λ r. r < routinesOf book) r (entriesOf (g .listed)) (entries-below (g .listed) l (f .sized .listed)) h in
+      let to-start = f .startStages r (among-in (g .starting) s (f .sized .starting) r k) in
+      f .unlistedStages r below (inl to-start) (among-in (g .listed) l (f .sized .listed) r h))
+
+  both-few : length both ≤ mostEntries
+  both-few = omega (arith, distinct-few (routinesOf book) both both-distinct both-below, range .fewRoutines)
+
+  pub joined-entries : entriesOf (appended (g .listed) (entriesOf (g .starting))) ≡ both
+  joined-entries =
+      let m = entries-length (g .listed) (fit-lists book g f .0) (f .sized .listed) in
+      appended-entries (g .listed) (entriesOf (g .starting)) (f .sized .listed) (omega (arith, m, simp length-append at both-few))
+
+  pub joined-below : All (λ r. r < routinesOf book) (entriesOf (appended (g .listed) (entriesOf (g .starting))))
+  joined-below = rw joined-entries both-below
+
+  pub joined-distinct : Distinct (entriesOf (appended (g .listed) (entriesOf (g .starting))))
+  joined-distinct = rw joined-entries both-distinct
+
+  pub joined-short : length (entriesOf (appended (g .listed) (entriesOf (g .starting)))) ≤ mostEntries
+  joined-short = rw joined-entries both-few

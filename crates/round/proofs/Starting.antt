@@ -2,7 +2,7 @@
 -- are not listed yet; the routines that stay listed come to stage 1, and of the others none is left in stage 1 or 2: one that was is to
 -- stop, and comes to stage 4.
 use Prim.Native.Nat.{ℕ, _<_, _≤_}
-use mathlib.Core.Path.{_≡_, refl, sym, _∙_, ap, subst}
+use mathlib.Core.Path.{_≡_, refl, _∙_, ap, subst}
 use mathlib.Core.Bool.{Bool, true, false, _&&_, _||_, not}
 use mathlib.Core.List.{List}
 use mathlib.Core.Logic.{_⊎_, inl, inr, ⊎-elim}
@@ -24,10 +24,10 @@ use Rattle.round.specs.Actions.{kept, inStage1, inStage4, withoutOrders,
 use Rattle.round.proofs.Histories.{in-first, in-second}
 use Rattle.round.proofs.Along.{All, among-all, Distinct}
 use Rattle.round.proofs.Sound.{Sound}
-use Rattle.round.proofs.Entries.{entries-below, apart, joined-entries}
+use Rattle.round.proofs.Entries.{entries-below}
 use Rattle.round.proofs.Actions.{each-length, each-other, each-given, startsOf, joinedOf, first, stops, stays, leaving, staying}
 use Rattle.round.proofs.Actions.{halted, last, at-start-routines, at-start-positions, kept-below, staying-short, at-start-entries}
-use Rattle.round.proofs.Listing.{among-or, distinct-joined, among-kept, distinct-kept}
+use Rattle.round.proofs.Listing.{among-or, among-kept, distinct-kept, joined-entries, joined-distinct}
 use Rattle.round.proofs.Listing.{in-among, among-in, entries-distinct, appended-sized, appended-right}
 use Rattle.round.specs.Counting.{Among}
 
@@ -58,16 +58,6 @@ module _ (g : Game) where
 module _ (book : List ℕ) (g : Game) (range : CountsInRange book) (f : Fits book g) where
   first-long : (r : ℕ) → r < routinesOf book → r < length (first g)
   first-long r l = omega (arith, each-length inStage1 (startsOf g) (g .routines), f .sized .routines, range .fewRoutines)
-
-  joined-distinct : Distinct (joinedOf g)
-  joined-distinct =
-      let (l, s) = fit-lists book g f in
-      rw (joined-entries book g range f)
-      (distinct-joined (entriesOf (g .listed)) (startsOf g) (entries-distinct (g .listed) l (f .sized .listed))
-      (entries-distinct (g .starting) s (f .sized .starting)) (λ r h k.
-      let (i, m, d) = among-in (g .listed) l (f .sized .listed) r h in
-      let (j, n, e) = among-in (g .starting) s (f .sized .starting) r k in
-      apart book g range f i j m n (d ∙ sym e)))
 
   -- one under way once action 1 is done is listed then
   under-way-joined : (r : ℕ) → r < routinesOf book → UnderWay (getD (first g) r blank .stage) → Among r (joinedOf g)
@@ -133,7 +123,7 @@ module _ (book : List ℕ) (g : Game) (range : CountsInRange book) (f : Fits boo
   unfolding atStart
   listed-right =
       appended-right (staying g) (staying-short book g range f) (kept-below book g range f (stays g))
-      (distinct-kept (stays g) (joinedOf g) joined-distinct)
+      (distinct-kept (stays g) (joinedOf g) (joined-distinct book g range f))
 
   at-start-sized : Sized (atStart g .game)
   unfolding atStart

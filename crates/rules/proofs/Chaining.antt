@@ -10,7 +10,7 @@ use Rattle.book.specs.Accepted.{CountsInRange}
 use Rattle.fitting.specs.Fits.{Fits}
 use Rattle.round.specs.State.{State}
 use Rattle.round.specs.Actions.{atStart}
-use Rattle.round.proofs.Entries.{joined-entries}
+use Rattle.round.proofs.Listing.{joined-entries}
 use Rattle.round.proofs.Actions.{at-start-entries}
 use Rattle.rules.specs.Instructions.{CONT}
 use Rattle.rules.specs.Schedulers.{is}
