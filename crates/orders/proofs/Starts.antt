@@ -4,7 +4,7 @@ use Prim.Native.Nat.{ℕ, _+_, _<_, _≤_}
 use mathlib.Core.Path.{_≡_, refl, sym, _∙_}
 use mathlib.Core.Bool.{true, false, _&&_, not, and-false}
 use mathlib.Core.List.{List}
-use mathlib.Core.Logic.{_⊎_, inl, inr}
+use mathlib.Core.Logic.{_⊎_, inl, inr, ⊎-elim}
 use native.Mathlib.Omega.{arith}
 use borrow.Author.Tests.{ltb-true, eqb-true, ne-eqb, not-true}
 use lib.Dec.{ltb, eqb}
@@ -61,7 +61,7 @@ module _ (l : Line) (r : ℕ) (z : length (l .items) ≡ mostEntries) where
     joined-in : isIn (joined l r) r ≡ true
     joined-in = is-in (joined l r) (omega arith) r .1 (l .len, omega arith, joined-last)
 
-    joined-right : {routines : ℕ} → LineRight l routines → r < routines → isIn l r ≡ false → LineRight (joined l r) routines
+    pub joined-right : {routines : ℕ} → LineRight l routines → r < routines → (In l r → ⊥) → LineRight (joined l r) routines
     joined-right {routines} t below new =
         record {
           short = omega arith;
@@ -74,8 +74,19 @@ module _ (l : Line) (r : ℕ) (z : length (l .items) ≡ mostEntries) where
           once =
               λ i.
               set-each (l .items) (l .len) r 0 (λ j v. i < j → j < l .len + 1 → itemAt (joined l r) i ≡ v → ⊥) inside
-              (λ a b e. clash (is-in l (t .short) r .1 (i, a, sym (joined-before i (λ k. omega arith)) ∙ e)) new)
+              (λ a b e. new (i, a, sym (joined-before i (λ k. omega arith)) ∙ e))
               (λ j n a b e. t .once i j a (omega arith) (sym (joined-before i (λ k. omega arith)) ∙ e));
+        }
+
+    -- what was in the list stays, and r is all that comes to it
+    pub joined-adds : OnlyAdds r (In l) (In (joined l r))
+    joined-adds =
+        record {
+          stays = λ m (i, h, e). (i, omega arith, joined-before i (λ k. omega arith) ∙ e);
+          only =
+              λ m (i, h, e).
+              set-each (l .items) (l .len) r 0 (λ i v. i < l .len + 1 → v ≡ m → In l m ⊎ (m ≡ r)) inside
+              (λ a e. inr (sym e)) (λ i n a e. inl (i, omega arith, e)) i h e;
         }
 
   pub starts-start : {s : List ℕ} {g : Game} → Starts s g l → r < routinesOf s → Starts s g (withStart l r (routineAt g r .stage))
@@ -83,24 +94,13 @@ module _ (l : Line) (r : ℕ) (z : length (l .items) ≡ mostEntries) where
       start-either l r (routineAt g r .stage) (Starts s g) (λ e. t) (λ room stage new.
       record {
         sized = length-set (l .items) (l .len) r ∙ z;
-        line = joined-right room (t .line) below new;
-        starting =
-            λ k (i, h, e).
-            set-each (l .items) (l .len) r 0 (λ i v. i < l .len + 1 → v ≡ k → routineAt g k .stage ≡ notStarted) (inside room)
-            (λ a e. rw (← e) stage) (λ i n a e. t .starting k (i, omega arith, e)) i h e;
+        line = joined-right room (t .line) below (λ h. clash (is-in l (t .line .short) r .1 h) new);
+        starting = λ k h. ⊎-elim (t .starting k) (λ e. rw e stage) (joined-adds room .only k h);
       })
 
-  -- what was in the list stays, and r is all that comes to it
   pub start-adds : (stage : ℕ) → OnlyAdds r (In l) (In (withStart l r stage))
   start-adds stage =
-      start-either l r stage (λ k. OnlyAdds r (In l) (In k)) (λ e. nothing-added) (λ room e new.
-      record {
-        stays = λ m (i, h, e). (i, omega arith, joined-before room i (λ k. omega arith) ∙ e);
-        only =
-            λ m (i, h, e).
-            set-each (l .items) (l .len) r 0 (λ i v. i < l .len + 1 → v ≡ m → In l m ⊎ (m ≡ r)) (inside room)
-            (λ a e. inr (sym e)) (λ i n a e. inl (i, omega arith, e)) i h e;
-      })
+      start-either l r stage (λ k. OnlyAdds r (In l) (In k)) (λ e. nothing-added) (λ room e new. joined-adds room)
 
   pub start-again : (stage : ℕ) → withStart (withStart l r stage) r stage ≡ withStart l r stage
   unfolding withStart

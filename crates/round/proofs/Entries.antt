@@ -35,7 +35,7 @@ kept-short test (r ∷ rs) =
     by-test (λ qs. length qs ≤ suc (length rs)) (test r) {x = r ∷ kept test rs} {y = kept test rs} (λ e. omega arith) (λ e. omega arith)
 
 module _ (l : Line) (r : ℕ) (z : length (l .items) ≡ mostEntries) (h : l .len < mostEntries) where
-  pushed-joined : pushed l r ≡ joined l r
+  pub pushed-joined : pushed l r ≡ joined l r
   pushed-joined = rw (lt-ltb (l .len) mostEntries h)
 
   pub pushed-entries : entriesOf (pushed l r) ≡ entriesOf l ++ (r ∷ [])

@@ -6,26 +6,24 @@ use mathlib.Core.Path.{_≡_, refl, sym, _∙_, ap, subst}
 use mathlib.Core.Bool.{Bool, true}
 use mathlib.Core.List.{List, [], _∷_, _++_}
 use mathlib.Core.Logic.{_⊎_, inl, inr, ⊎-elim}
-use native.Mathlib.Nat.{add-zero}
 use native.Mathlib.Omega.{arith}
 use native.Mathlib.Decide.{ℕ-discrete}
-use borrow.Author.Tests.{lt-ltb}
 use lib.ListN.{length, getD, length-set, length-append, getD-replicate}
-use lib.Seq.{getD-set-other}
 use Rattle.numbers.proofs.Tests.{clash, by-test}
 use Rattle.layout.specs.Layout.{routinesOf}
 use Rattle.book.specs.Accepted.{CountsInRange}
 use Rattle.lines.specs.declared.Line.{Line}
 use Rattle.game.specs.declared.Game.{Game}
-use Rattle.lines.specs.Lines.{mostEntries, empty, itemAt, entriesOf, appended}
+use Rattle.lines.specs.Lines.{mostEntries, empty, entriesOf, appended}
 use Rattle.fitting.specs.Fits.{In, Fits}
 use Rattle.fitting.proofs.Lists.{joined, LineRight}
 use Rattle.fitting.proofs.Decides.{fit-lists}
 use Rattle.fitting.proofs.Room.{few}
+use Rattle.orders.proofs.Starts.{joined-right, joined-adds}
 use Rattle.round.specs.Actions.{kept}
 use Rattle.round.proofs.Histories.{somewhere-append}
 use Rattle.round.proofs.Along.{All, all-append, among-all, Distinct}
-use Rattle.round.proofs.Entries.{appended-entries, item-at, entries-length, entries-below}
+use Rattle.round.proofs.Entries.{pushed-joined, appended-entries, item-at, entries-length, entries-below}
 use Rattle.round.specs.Counting.{Among}
 
 pub among-or : (r : ℕ) (rs : List ℕ) → Among r rs ⊎ (Among r rs → ⊥)
@@ -117,53 +115,40 @@ module _ (l : Line) {routines : ℕ} (t : LineRight l routines) (z : length (l .
       let m : j < l .len = omega (arith, entries-length l t z) in
       t .once i j h m (sym (item-at l (t .short) i (omega arith)) ∙ e ∙ item-at l (t .short) j m))
 
--- a list with n entries and nothing behind them
-record Filled (l : Line) (n : ℕ) : Type 0 where
-  len : l .len ≡ n
-  sized : length (l .items) ≡ mostEntries
-  beyond : (i : ℕ) → n ≤ i → i < mostEntries → itemAt l i ≡ 0
+-- a list is right and has all its places
+abbrev pub Right : ℕ → Line → Type 0
+Right routines l = LineRight l routines × (length (l .items) ≡ mostEntries)
 
-appended-filled : (l : Line) (n : ℕ) (rs : List ℕ) → n + length rs ≤ mostEntries → Filled l n → Filled (appended l rs) (n + length rs)
+-- different routines of the book that are not in a list, appended to it
+appended-more :
+    (l : Line) {routines : ℕ} (rs : List ℕ) → Right routines l → l .len + length rs ≤ mostEntries → All (λ r. r < routines) rs →
+    Distinct rs → ((r : ℕ) → Among r rs → In l r → ⊥) → Right routines (appended l rs)
 unfolding appended
-appended-filled l n [] h a = rw add-zero a
-appended-filled l n (r ∷ rs) h a =
-    let more : Filled (joined l r) (n + 1) =
-    record {
-      len = omega (arith, a .len);
-      sized = length-set (l .items) (l .len) r ∙ a .sized;
-      beyond =
-          λ i k m. getD-set-other (l .items) (l .len) i r 0 (λ e. absurd (omega (arith, a .len))) ∙ a .beyond i (omega arith) m;
-    }
-    in
-    let e : n + length (r ∷ rs) ≡ (n + 1) + length rs = omega arith in
-    rw (e, lt-ltb (l .len) mostEntries (omega (arith, a .len))) (appended-filled (joined l r) (n + 1) rs (omega arith) more)
+appended-more l [] right short below d new = right
+appended-more l {routines} (r ∷ rs) (t, z) short below d new =
+    let room : l .len < mostEntries = omega arith in
+    let right : Right routines (joined l r) =
+    (joined-right l r z room t (below .0) (new r (inl refl)), length-set (l .items) (l .len) r ∙ z) in
+    subst (λ m. Right routines (appended m rs)) (sym (pushed-joined l r z room))
+    (appended-more (joined l r) rs right (omega arith) (below .1) (d .1) (λ q h k.
+    ⊎-elim (new q (inr h)) (λ e. d .0 (rw e at h)) (joined-adds l r z room .only q k)))
 
--- different routines of the book, appended to none
+-- appended to none
 module _ (rs : List ℕ) (short : length rs ≤ mostEntries) where
-  filled : Filled (appended empty rs) (0 + length rs)
-  filled =
-      appended-filled empty 0 rs (omega arith)
-      (record { len = refl; sized = refl; beyond = λ i h k. getD-replicate mostEntries i 0 0 k })
-
-  pub appended-sized : length (appended empty rs .items) ≡ mostEntries
-  appended-sized = filled .sized
-
   pub entries-same : entriesOf (appended empty rs) ≡ rs
   entries-same = appended-entries empty rs refl (omega arith)
 
-  pub appended-right : {routines : ℕ} → All (λ r. r < routines) rs → Distinct rs → LineRight (appended empty rs) routines
+  pub appended-right : {routines : ℕ} → All (λ r. r < routines) rs → Distinct rs → Right routines (appended empty rs)
   appended-right {routines} below d =
-      let l = appended empty rs in
-      let len : l .len ≡ length rs = omega (arith, filled .len) in
-      let at : (i : ℕ) → i < l .len → itemAt l i ≡ getD rs i 0 =
-      λ i h. sym (item-at l (omega arith) i h) ∙ ap (λ qs. getD qs i 0) entries-same
-      in
+      let none : LineRight empty routines =
       record {
         short = omega arith;
-        entries = λ i h. rw (at i h) (among-all (λ r. r < routines) (getD rs i 0) rs below (among-at rs i (omega arith)));
-        beyond = λ i h. filled .beyond i (omega arith);
-        once = λ i j h k e. distinct-places rs d i j h (omega arith) (sym (at i (omega arith)) ∙ e ∙ at j k);
+        entries = λ i h. absurd (omega arith);
+        beyond = λ i h k. getD-replicate mostEntries i 0 0 k;
+        once = λ i j h k e. omega arith;
       }
+      in
+      appended-more empty rs (none, refl) (omega arith) below d (λ r h (i, k, e). omega arith)
 
 -- those listed and those to start, as action 1 joins them
 module _ (book : List ℕ) (g : Game) (range : CountsInRange book) (f : Fits book g) where

@@ -16,7 +16,6 @@ use Rattle.game.specs.declared.Game.{Game}
 use Rattle.lines.specs.Lines.{mostEntries, entriesOf}
 use Rattle.game.specs.Game.{continuing, rested, ended, stopped, blank, routineAt, Sized}
 use Rattle.fitting.specs.Fits.{In, Fits}
-use Rattle.fitting.proofs.Lists.{LineRight}
 use Rattle.fitting.proofs.Routines.{UnderWay}
 use Rattle.fitting.proofs.Decides.{fit-lists}
 use Rattle.round.specs.declared.Position.{Position}
@@ -28,7 +27,7 @@ use Rattle.round.proofs.Entries.{entries-below}
 use Rattle.round.proofs.Actions.{each-length, each-other, each-given, startsOf, joinedOf, first, stops, stays, leaving, staying}
 use Rattle.round.proofs.Actions.{halted, last, at-start-routines, at-start-positions, kept-below, staying-short, at-start-entries}
 use Rattle.round.proofs.Listing.{among-or, among-kept, distinct-kept, joined-entries, joined-distinct}
-use Rattle.round.proofs.Listing.{in-among, among-in, entries-distinct, appended-sized, appended-right}
+use Rattle.round.proofs.Listing.{in-among, among-in, entries-distinct, Right, appended-right}
 use Rattle.round.specs.Counting.{Among}
 
 -- a stage that is not under way
@@ -119,7 +118,7 @@ module _ (book : List ℕ) (g : Game) (range : CountsInRange book) (f : Fits boo
       each-other inStage1 (startsOf g) (g .routines) r (none (startsOf g) starts) ∙
       f .routinesBeyond r l m)
 
-  listed-right : LineRight (atStart g .game .listed) (routinesOf book)
+  listed-right : Right (routinesOf book) (atStart g .game .listed)
   unfolding atStart
   listed-right =
       appended-right (staying g) (staying-short book g range f) (kept-below book g range f (stays g))
@@ -131,7 +130,7 @@ module _ (book : List ℕ) (g : Game) (range : CountsInRange book) (f : Fits boo
       record {
         routines = at-start-routines g ∙ f .sized .routines;
         counters = f .sized .counters;
-        listed = appended-sized (staying g) (staying-short book g range f);
+        listed = listed-right .1;
         starting = refl;
         broadcast = length-replicate mostSignals false;
       }
@@ -142,21 +141,21 @@ module _ (book : List ℕ) (g : Game) (a : Accepted book) (f : Fits book g) wher
 
   pub listed-distinct : Distinct (entriesOf (atStart g .game .listed))
   listed-distinct =
-      entries-distinct (atStart g .game .listed) (listed-right book g range f) (at-start-sized book g range f .listed)
+      entries-distinct (atStart g .game .listed) (listed-right book g range f .0) (listed-right book g range f .1)
 
   pub listed-below : All (λ r. r < routinesOf book) (entriesOf (atStart g .game .listed))
   listed-below = rw (at-start-entries book g range f) (kept-below book g range f (stays g))
 
   -- in the playing order, and among its entries
   pub listed-among : (r : ℕ) → In (atStart g .game .listed) r → Among r (entriesOf (atStart g .game .listed))
-  listed-among = in-among (atStart g .game .listed) (listed-right book g range f) (at-start-sized book g range f .listed)
+  listed-among = in-among (atStart g .game .listed) (listed-right book g range f .0) (listed-right book g range f .1)
 
   pub among-listed : (r : ℕ) → Among r (entriesOf (atStart g .game .listed)) → In (atStart g .game .listed) r
-  among-listed = among-in (atStart g .game .listed) (listed-right book g range f) (at-start-sized book g range f .listed)
+  among-listed = among-in (atStart g .game .listed) (listed-right book g range f .0) (listed-right book g range f .1)
 
   pub listed-stage : (r : ℕ) → In (atStart g .game .listed) r → routineAt (atStart g .game) r .stage ≡ continuing
   listed-stage r (i, h, e) =
-      let below : r < routinesOf book = rw e at (listed-right book g range f .entries i h) in
+      let below : r < routinesOf book = rw e at (listed-right book g range f .0 .entries i h) in
       staying-stage book g range f r below (rw (at-start-entries book g range f) at (listed-among r (i, h, e)))
 
   at-start-fits : Fits book (atStart g .game)
@@ -167,7 +166,7 @@ module _ (book : List ℕ) (g : Game) (a : Accepted book) (f : Fits book g) wher
       let place : (r : ℕ) → after r .place ≡ routineAt g r .place = λ r. ap (λ (x : Position). x .place) (same r) in
       let left : (r : ℕ) → after r .left ≡ routineAt g r .left = λ r. ap (λ (x : Position). x .left) (same r) in
       let begun : (r : ℕ) → after r .begun ≡ routineAt g r .begun = λ r. ap (λ (x : Position). x .begun) (same r) in
-      let line = listed-right book g range f in
+      let line = listed-right book g range f .0 in
       let idle = other-stage book g range f in
       record {
         numbers = f .numbers;
