@@ -17,8 +17,7 @@ use Rattle.game.specs.Game.{blank, routineAt}
 use Rattle.fitting.specs.Fits.{Fits}
 use Rattle.orders.proofs.Stores.{entry-set, same-at}
 use Rattle.round.specs.Actions.{kept, each, positionOf, inStage1, inStage4, getsStopped, staysListed, withoutOrders, atStart}
-use Rattle.round.proofs.Along.{All}
-use Rattle.round.proofs.Entries.{all-kept, kept-short}
+use Rattle.round.proofs.Among.{All, all-kept, kept-short}
 use Rattle.round.proofs.Listing.{entries-same, joined-below, joined-short}
 use Rattle.round.specs.Counting.{Among}
 
@@ -128,7 +127,7 @@ module _ (g : Game) where
 
 module _ (book : List ℕ) (g : Game) (range : CountsInRange book) (f : Fits book g) where
   pub kept-below : (test : ℕ → Bool) → All (λ r. r < routinesOf book) (kept test (joinedOf g))
-  kept-below test = all-kept (λ r. r < routinesOf book) test (joinedOf g) (joined-below book g range f)
+  kept-below test = all-kept test (λ r. r < routinesOf book) (joinedOf g) (joined-below book g range f)
 
   pub staying-short : length (staying g) ≤ mostEntries
   staying-short = omega (arith, kept-short (stays g) (joinedOf g), joined-short book g range f)

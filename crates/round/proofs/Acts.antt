@@ -27,7 +27,7 @@ use Rattle.round.specs.Ticks.{Tick, countAt}
 use Rattle.round.specs.Answers.{opMark}
 use Rattle.round.specs.Demand.{isSignalOp, AsksFor, wait, waitFor, join, joinFor, read}
 use Rattle.round.proofs.Leads.{Leaves}
-use Rattle.round.proofs.Along.{All}
+use Rattle.round.proofs.Among.{All}
 
 -- each number given is in range, whatever signal it was given with
 abbrev pub NumbersRight : List (ℕ × ℤ) → Type 0

@@ -18,7 +18,8 @@ use Rattle.round.specs.Actions.{atStart}
 use Rattle.round.specs.Rounds.{again, mostPasses, listedIn, turn, pass, instant, round, historyOf}
 use Rattle.round.specs.Answers.{answer}
 use Rattle.round.proofs.Telling.{accepted-played}
-use Rattle.round.proofs.Along.{All, all-among, pass-along, instant-along}
+use Rattle.round.proofs.Among.{All, all-among}
+use Rattle.round.proofs.Along.{pass-along, instant-along}
 use Rattle.round.proofs.Sound.{Sound}
 use Rattle.round.proofs.Starting.{listed-below, at-start-sound}
 use Rattle.round.proofs.Staying.{turn-sound, again-sound}

@@ -1,42 +1,14 @@
 -- What holds of each turn holds of a pass and of a round's passes: for any claim on a state and on the turns from it that holds of no turns
 -- and of some after others. By induction on the listed routines, and on the passes allowed. So too for any claim on two states and what is
--- told between them, from the states that turns keep. First stands what holds of each of some, and that some routines are different ones.
+-- told between them, from the states that turns keep.
 use Prim.Native.Nat.{ℕ, zero, suc}
-use mathlib.Core.Path.{refl}
 use mathlib.Core.List.{List, [], _∷_, _++_}
-use mathlib.Core.Logic.{inl, inr}
 use Rattle.numbers.proofs.Tests.{by-test}
 use Rattle.game.specs.declared.Game.{Game}
 use Rattle.round.specs.State.{State, Happening}
-use Rattle.round.specs.Counting.{Among}
 use Rattle.round.specs.Actions.{atStart}
 use Rattle.round.specs.Rounds.{Played, followedBy, allDone, again, mostPasses, listedIn, turn, pass, Round, instant, round, historyOf}
-
--- P holds of each of some
-abbrev pub All : {A : Type 0} → (A → Type 0) → List A → Type 0
-All P [] = Unit {0}
-All P (x ∷ xs) = P x × All P xs
-
-pub all-append : {A : Type 0} (P : A → Type 0) (xs ys : List A) → All P xs → All P ys → All P (xs ++ ys)
-all-append P [] ys h k = k
-all-append P (x ∷ xs) ys h k = (h .0, all-append P xs ys (h .1) k)
-
-pub among-all : (P : ℕ → Type 0) (r : ℕ) (rs : List ℕ) → All P rs → Among r rs → P r
-among-all P r [] a h = absurd h
-among-all P r (q ∷ qs) a (inl e) = rw e (a .0)
-among-all P r (q ∷ qs) a (inr h) = among-all P r qs (a .1) h
-
-each-among : (P : ℕ → Type 0) (rs : List ℕ) → ((r : ℕ) → Among r rs → P r) → All P rs
-each-among P [] h = tt
-each-among P (r ∷ rs) h = (h r (inl refl), each-among P rs (λ q k. h q (inr k)))
-
--- no routine is among them twice
-abbrev pub Distinct : List ℕ → Type 0
-Distinct [] = Unit {0}
-Distinct (r ∷ rs) = (Among r rs → ⊥) × Distinct rs
-
-pub all-among : (P : ℕ → Type 0) (rs : List ℕ) → All P rs → All (λ r. P r × Among r rs) rs
-all-among P rs all = each-among (λ r. P r × Among r rs) rs (λ r h. (among-all P r rs all h, h))
+use Rattle.round.proofs.Among.{All, each-among}
 
 module _
     (Claim : State → Played → Type 0) (none : (s : State) → Claim s (record { state = s; told = []; turns = [] }))

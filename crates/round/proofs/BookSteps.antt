@@ -15,7 +15,7 @@ use Rattle.book.proofs.Parts.{same-taken, same-routine}
 use Rattle.numbers.specs.Below.{sumBelow}
 use Rattle.numbers.proofs.Below.{below-same, below-cut}
 use Rattle.round.specs.Counting.{countBelow, stepsIn}
-use Rattle.round.proofs.Along.{All, Distinct}
+use Rattle.round.proofs.Among.{All, Distinct}
 use Rattle.round.proofs.Counting.{one, count-all}
 use Rattle.round.proofs.Sums.{over-le, over-below}
 

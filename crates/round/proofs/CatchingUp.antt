@@ -13,9 +13,9 @@ use Rattle.round.specs.Counting.{howMany, Among, Somewhere}
 use Rattle.round.specs.Rounds.{Played, again, turn, pass}
 use Rattle.round.specs.Demand.{Comes, IsPast, here, later, CatchesUp}
 use Rattle.round.specs.Whole.{isMiss}
-use Rattle.round.proofs.Along.{All}
+use Rattle.round.proofs.Among.{All, somewhere-append}
 use Rattle.round.proofs.TurnLaws.{isGoing, moves, Turned, others-going, Waits, waits-too, ToBeContinued, TurnLaws}
-use Rattle.round.proofs.Histories.{moves-append, EachWith, each-at, somewhere-append, nothing-comes}
+use Rattle.round.proofs.Histories.{moves-append, EachWith, each-at, nothing-comes}
 use Rattle.round.proofs.Waiting.{passed}
 use Rattle.round.proofs.Closing.{there-again, waits-again}
 

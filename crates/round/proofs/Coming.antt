@@ -25,7 +25,8 @@ use Rattle.round.proofs.Stepping.{ticks-along}
 use Rattle.round.proofs.Standings.{StillThere}
 use Rattle.round.proofs.Effects.{Untouched, untouched-same, untouched-then, effect-untouched, Ungiven, ungiven, effect-ungiven}
 use Rattle.round.proofs.Effects.{same-things, Gave, give, give-number}
-use Rattle.round.proofs.Histories.{many-append, none-told, stops-none, somewhere-append, in-either, isGiven, given-by-signals}
+use Rattle.round.proofs.Among.{somewhere-append, in-either}
+use Rattle.round.proofs.Histories.{many-append, none-told, stops-none, isGiven, given-by-signals}
 use Rattle.round.proofs.Histories.{end-ends}
 
 -- state u comes of state s, with this told between them

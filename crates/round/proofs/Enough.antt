@@ -15,7 +15,6 @@ use Rattle.directory.specs.Directory.{stepCount, routineSteps}
 use Rattle.book.specs.Accepted.{Accepted}
 use Rattle.game.specs.declared.Game.{Game}
 use Rattle.fitting.specs.Fits.{Fits}
-use Rattle.fitting.proofs.Decides.{fit-lists}
 use Rattle.round.specs.declared.Position.{Position}
 use Rattle.round.specs.declared.Act.{Act}
 use Rattle.round.specs.declared.Act.the-variants.{Goes, Halts}
@@ -26,11 +25,12 @@ use Rattle.round.specs.Ticks.{tick, fresh, effectOn}
 use Rattle.round.specs.Rounds.{follow, ticks, passThen, mostPasses, listedIn, turn, pass, instant, round}
 use Rattle.round.specs.Enough.{IfItGoesOn, InTime, RoundEnds, Enough}
 use Rattle.round.specs.Demand.{isSignalStep, givesSignal, endsRoutine}
-use Rattle.round.proofs.Along.{All, among-all}
+use Rattle.round.proofs.Among.{All, among-all, kept-short}
 use Rattle.round.proofs.Sound.{Sound}
 use Rattle.round.proofs.TurnLaws.{isGoing, moves}
 use Rattle.round.proofs.Sums.{over-le, kept-sum}
-use Rattle.round.proofs.Entries.{kept-short, entries-length}
+use Rattle.round.proofs.Entries.{entries-length}
+use Rattle.round.proofs.Listing.{lists-right}
 use Rattle.round.proofs.Starting.{at-start-sound, listed-distinct, listed-below}
 use Rattle.round.proofs.Lasting.{routine-in-time, left-most}
 use Rattle.round.proofs.Paying.{worth, leftOf, turn-pays, mayEnd, ends-pay}
@@ -109,8 +109,7 @@ module _ (book : List ℕ) (a : Accepted book) where
     few-listed =
         let start = at-start-sound book g a f in
         let few = start .fits .lengthsInRange .0 in
-        let right = fit-lists book (atStart g .game) (start .fits) .0 in
-        omega (arith, entries-length (atStart g .game .listed) right (start .fits .sized .listed))
+        omega (arith, entries-length (lists-right book (atStart g .game) (start .fits) .0))
 
     passes-enough : RoundEnds book mostPasses (listedIn g) (atStart g)
     unfolding atStart

@@ -1,38 +1,19 @@
 -- The entries of a list: one that is pushed, and some that are appended, come behind those that it had, if it has room;
--- in a list that is right they are routines of the book, as many as its length says.
-use Prim.Native.Nat.{ℕ, suc, _+_, _<_, _≤_}
-use mathlib.Core.Path.{_≡_, sym, _∙_}
-use mathlib.Core.Bool.{Bool}
+-- in a list that is right they are what is in it: routines of the book, none twice, as many as its length says.
+use Prim.Native.Nat.{ℕ, _+_, _<_, _≤_}
+use mathlib.Core.Path.{_≡_, sym, _∙_, subst}
 use mathlib.Core.List.{List, [], _∷_, _++_, append-nil, append-assoc}
 use native.Mathlib.Omega.{arith}
 use native.Mathlib.Numerals.{add-one}
 use borrow.Author.Tests.{lt-ltb}
 use lib.ListN.{length, getD, length-set}
 use lib.Seq.{take-suc-set, length-take-le, getD-take}
-use Rattle.numbers.proofs.Tests.{by-test}
 use Rattle.lines.specs.declared.Line.{Line}
 use Rattle.lines.specs.Lines.{mostEntries, itemAt, entriesOf, pushed, appended}
+use Rattle.fitting.specs.Fits.{In}
 use Rattle.fitting.proofs.Lists.{joined, LineRight, used-all}
-use Rattle.round.specs.Actions.{kept}
-use Rattle.round.proofs.Along.{All}
-
-module _ (P : ℕ → Type 0) where
-  all-of : (rs : List ℕ) → ((i : ℕ) → i < length rs → P (getD rs i 0)) → All P rs
-  all-of [] h = tt
-  all-of (r ∷ rs) h = (h 0 (omega arith), all-of rs (λ i l. h (suc i) (omega arith)))
-
-  pub all-kept : (test : ℕ → Bool) (rs : List ℕ) → All P rs → All P (kept test rs)
-  unfolding kept
-  all-kept test [] h = tt
-  all-kept test (r ∷ rs) h =
-      let rest = all-kept test rs (h .1) in by-test (All P) (test r) (λ e. (h .0, rest)) (λ e. rest)
-
-pub kept-short : (test : ℕ → Bool) (rs : List ℕ) → length (kept test rs) ≤ length rs
-unfolding kept
-kept-short test [] = omega arith
-kept-short test (r ∷ rs) =
-    let rest = kept-short test rs in
-    by-test (λ qs. length qs ≤ suc (length rs)) (test r) {x = r ∷ kept test rs} {y = kept test rs} (λ e. omega arith) (λ e. omega arith)
+use Rattle.round.specs.Counting.{Among}
+use Rattle.round.proofs.Among.{All, among-at, among-place, each-among, Distinct, places-distinct}
 
 module _ (l : Line) (r : ℕ) (z : length (l .items) ≡ mostEntries) (h : l .len < mostEntries) where
   pub pushed-joined : pushed l r ≡ joined l r
@@ -54,16 +35,34 @@ appended-entries l (r ∷ rs) z h =
     appended-entries (pushed l r) rs sized (rw (pushed-joined l r z room) (omega arith)) ∙
     rw (pushed-entries l r z room) (append-assoc (entriesOf l) (r ∷ []) rs)
 
--- entry i
-pub item-at : (l : Line) → l .len ≤ mostEntries → (i : ℕ) → i < l .len → getD (entriesOf l) i 0 ≡ itemAt l i
-item-at l short i h = rw (used-all l short) (getD-take (l .len) (l .items) i 0 h)
+-- a list is right and has all its places
+abbrev pub Right : ℕ → Line → Type 0
+Right routines l = LineRight l routines × (length (l .items) ≡ mostEntries)
 
-module _ (l : Line) {routines : ℕ} (t : LineRight l routines) (z : length (l .items) ≡ mostEntries) where
+module _ {l : Line} {routines : ℕ} (right : Right routines l) where
   pub entries-length : length (entriesOf l) ≡ l .len
-  entries-length = rw (used-all l (t .short)) (length-take-le (l .len) (l .items) (omega (arith, t .short)))
+  entries-length = rw (used-all l (right .0 .short)) (length-take-le (l .len) (l .items) (omega (arith, right .0 .short)))
+
+  item-at : (i : ℕ) → i < l .len → getD (entriesOf l) i 0 ≡ itemAt l i
+  item-at i h = rw (used-all l (right .0 .short)) (getD-take (l .len) (l .items) i 0 h)
+
+  pub in-among : (r : ℕ) → In l r → Among r (entriesOf l)
+  in-among r (i, h, e) =
+      let k : i < length (entriesOf l) = omega (arith, entries-length) in
+      subst (λ q. Among q (entriesOf l)) (item-at i h ∙ e) (among-at (entriesOf l) i k)
+
+  pub among-in : (r : ℕ) → Among r (entriesOf l) → In l r
+  among-in r h =
+      let (i, k, e) = among-place r (entriesOf l) h in
+      let m : i < l .len = omega (arith, entries-length) in
+      (i, m, sym (item-at i m) ∙ e)
 
   pub entries-below : All (λ r. r < routines) (entriesOf l)
   entries-below =
-      all-of (λ r. r < routines) (entriesOf l) (λ i h.
-      let k : i < l .len = omega (arith, entries-length) in
-      rw (item-at l (t .short) i k) (t .entries i k))
+      each-among (λ r. r < routines) (entriesOf l) (λ r h. let (i, k, e) = among-in r h in rw e at (right .0 .entries i k))
+
+  pub entries-distinct : Distinct (entriesOf l)
+  entries-distinct =
+      places-distinct (entriesOf l) (λ i j h k e.
+      let m : j < l .len = omega (arith, entries-length) in
+      right .0 .once i j h m (sym (item-at i (omega arith)) ∙ e ∙ item-at j m))

@@ -23,7 +23,7 @@ use Rattle.round.specs.Rounds.{again, listedIn, turn, historyOf}
 use Rattle.round.specs.Demand.{Comes, IsPast}
 use Rattle.round.proofs.Acts.{Asks}
 use Rattle.round.proofs.TurnLaws.{isGoing, waits-at}
-use Rattle.round.proofs.Histories.{somewhere-append, in-first, in-second}
+use Rattle.round.proofs.Among.{somewhere-append, in-first, in-second}
 use Rattle.round.proofs.After.{back, round-along}
 use Rattle.round.proofs.Sound.{Sound}
 use Rattle.round.proofs.Starting.{among-listed, listed-stage}

@@ -25,7 +25,7 @@ use Rattle.round.specs.State.{State, withGame, withNumbers}
 use Rattle.round.specs.Ticks.{mostNumbers, given, effectOn}
 use Rattle.round.proofs.Acts.{NumbersRight, Ranged, Right, nothing, mark, put, add, give, giveNumber}
 use Rattle.round.proofs.Acts.{start, stop, suspend, resume}
-use Rattle.round.proofs.Along.{all-append}
+use Rattle.round.proofs.Among.{all-append}
 use Rattle.round.proofs.Sound.{Sound}
 
 module _ {book : List ℕ} {s : State} (h : Sound book s) where

@@ -1,10 +1,10 @@
--- What is told: how many of the things that happened pass a test, what holds of each, what is somewhere among them, and what comes by them.
+-- What is told: how many of the things that happened pass a test, what holds of each with what is told after it, and what comes by them.
 -- By induction on what is told, and for what one step tells by the table of Acts.antt.
 use Prim.Native.Nat.{ℕ, _+_}
 use mathlib.Core.Path.{_≡_, refl}
 use mathlib.Core.Bool.{Bool, true, false}
 use mathlib.Core.List.{List, [], _∷_, _++_}
-use mathlib.Core.Logic.{_⊎_, inl, inr}
+use mathlib.Core.Logic.{inl, inr}
 use native.Mathlib.Omega.{arith}
 use lib.IntN.{ℤ}
 use Rattle.numbers.specs.Choice.{if_then_else_}
@@ -80,26 +80,6 @@ pub each-at :
     EachWith P (before ++ (h ∷ after)) → P h after
 each-at P [] after h all = all .0
 each-at P (x ∷ before) after h all = each-at P before after h (all .1)
-
--- somewhere in two lists, one after the other
-module _ {A : Type 0} (P : A → Type 0) where
-  pub somewhere-append : (a b : List A) → Somewhere P (a ++ b) → Somewhere P a ⊎ Somewhere P b
-  somewhere-append [] b h = inr h
-  somewhere-append (x ∷ a) b (inl h) = inl (inl h)
-  somewhere-append (x ∷ a) b (inr h) = elim (somewhere-append a b h) [ inl k ↦ inl (inr k) | inr k ↦ inr k ]
-
-  pub in-first : (a b : List A) → Somewhere P a → Somewhere P (a ++ b)
-  in-first (h ∷ a) b (inl w) = inl w
-  in-first (h ∷ a) b (inr w) = inr (in-first a b w)
-
-  pub in-second : (a b : List A) → Somewhere P b → Somewhere P (a ++ b)
-  in-second [] b w = w
-  in-second (h ∷ a) b w = inr (in-second a b w)
-
-  -- in the one or in the other, as a flag says
-  pub in-either : (a b : List A) (t : Bool) → (t ≡ true → Somewhere P a) → (t ≡ false → Somewhere P b) → Somewhere P (a ++ b)
-  in-either a b true f s = in-first a b (f refl)
-  in-either a b false f s = in-second a b (s refl)
 
 -- a thing that a step gives
 abbrev pub isGiven : Thing → Bool

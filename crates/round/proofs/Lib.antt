@@ -1,3 +1,5 @@
+-- what holds of some items, what is among them, and which are different
+pub mod Among
 -- what a step comes to, by its form, its fields and its kind
 pub mod Leads
 pub mod Acts

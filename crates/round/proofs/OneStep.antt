@@ -14,7 +14,7 @@ use Rattle.numbers.specs.Below.{sumBelow}
 use Rattle.numbers.proofs.Below.{below-same}
 use Rattle.round.specs.Counting.{countBelow, stepsIn}
 use Rattle.round.specs.Completed.{theStep}
-use Rattle.round.proofs.Along.{Distinct}
+use Rattle.round.proofs.Among.{Distinct}
 use Rattle.round.proofs.Counting.{one}
 use Rattle.round.proofs.Sums.{alone-le}
 

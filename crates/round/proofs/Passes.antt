@@ -12,7 +12,7 @@ use Rattle.round.specs.State.{State, Thing, Happening, isThere}
 use Rattle.round.specs.Rounds.{followedBy, allDone, again, pass, Round, instant}
 use Rattle.round.specs.Demand.{CatchesUp}
 use Rattle.round.specs.Enough.{RoundEnds}
-use Rattle.round.proofs.Along.{All}
+use Rattle.round.proofs.Among.{All}
 use Rattle.round.proofs.Histories.{moves-append, nothing-comes}
 use Rattle.round.proofs.Asking.{asks-once}
 use Rattle.round.proofs.TurnLaws.{isGoing, moves, Waits, Lacks, TurnLaws}

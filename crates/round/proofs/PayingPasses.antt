@@ -18,7 +18,8 @@ use Rattle.round.specs.Actions.{atStart}
 use Rattle.round.specs.Rounds.{listedIn, turn, pass, round, historyOf}
 use Rattle.round.proofs.Sums.{over-le}
 use Rattle.round.proofs.Histories.{many-append}
-use Rattle.round.proofs.Along.{All, all-among, pass-along}
+use Rattle.round.proofs.Among.{All, all-among}
+use Rattle.round.proofs.Along.{pass-along}
 use Rattle.round.proofs.Sound.{Sound}
 use Rattle.round.proofs.Staying.{turn-sound}
 use Rattle.round.proofs.After.{round-along}

@@ -32,7 +32,8 @@ use Rattle.round.specs.Rounds.{Ticks, ticks}
 use Rattle.round.specs.Replay.{opRest, opRestFor, Contents, leftBy, atStep, leadsTo, madeOf, contentsAfter, ledBy, placeAfter}
 use Rattle.round.specs.Whole.{isOf}
 use Rattle.round.proofs.Acts.{Says, silent, marks, gives, givesNumber, finds, Stops, ends, rests, misses, continues}
-use Rattle.round.proofs.Histories.{none-of-all, in-second as later}
+use Rattle.round.proofs.Among.{in-second as later}
+use Rattle.round.proofs.Histories.{none-of-all}
 use Rattle.round.proofs.Stepping.{ticks-by}
 use Rattle.round.proofs.Parsed.{size-same}
 use Rattle.round.proofs.Staying.{leaves-inside}

@@ -17,17 +17,14 @@ use Rattle.lines.specs.Lines.{mostEntries, entriesOf}
 use Rattle.game.specs.Game.{continuing, rested, ended, stopped, blank, routineAt, Sized}
 use Rattle.fitting.specs.Fits.{In, Fits}
 use Rattle.fitting.proofs.Routines.{UnderWay}
-use Rattle.fitting.proofs.Decides.{fit-lists}
 use Rattle.round.specs.declared.Position.{Position}
 use Rattle.round.specs.Actions.{kept, inStage1, inStage4, withoutOrders, atStart}
-use Rattle.round.proofs.Histories.{in-first, in-second}
-use Rattle.round.proofs.Along.{All, among-all, Distinct}
+use Rattle.round.proofs.Among.{in-first, in-second, All, among-all, Distinct, among-or, among-kept, distinct-kept}
 use Rattle.round.proofs.Sound.{Sound}
-use Rattle.round.proofs.Entries.{entries-below}
+use Rattle.round.proofs.Entries.{entries-below, in-among, among-in, entries-distinct, Right}
 use Rattle.round.proofs.Actions.{each-length, each-other, each-given, startsOf, joinedOf, first, stops, stays, leaving, staying}
 use Rattle.round.proofs.Actions.{halted, last, at-start-routines, at-start-positions, kept-below, staying-short, at-start-entries}
-use Rattle.round.proofs.Listing.{among-or, among-kept, distinct-kept, joined-entries, joined-distinct}
-use Rattle.round.proofs.Listing.{in-among, among-in, entries-distinct, Right, appended-right}
+use Rattle.round.proofs.Listing.{appended-right, lists-right, joined-entries, joined-distinct}
 use Rattle.round.specs.Counting.{Among}
 
 -- a stage that is not under way
@@ -68,7 +65,7 @@ module _ (book : List ℕ) (g : Game) (range : CountsInRange book) (f : Fits boo
       let same = each-other inStage1 (startsOf g) (g .routines) r n in
       let before : UnderWay (routineAt g r .stage) = subst (λ (x : Routine). UnderWay (x .stage)) same way in
       in-first (λ q. r ≡ q) listed (startsOf g)
-      (in-among (g .listed) (fit-lists book g f .0) (f .sized .listed) r (f .listedStages r l before)))
+      (in-among (lists-right book g f .0) r (f .listedStages r l before)))
       (among-or r (startsOf g)))
 
   first-range : (r : ℕ) → r < routinesOf book → getD (first g) r blank .stage ≤ stopped
@@ -110,7 +107,7 @@ module _ (book : List ℕ) (g : Game) (range : CountsInRange book) (f : Fits boo
       let none-kept : (test : ℕ → Bool) → Among r (kept test (joinedOf g)) → ⊥ =
       λ test. none (kept test (joinedOf g)) (kept-below book g range f test)
       in
-      let starts = entries-below (g .starting) (fit-lists book g f .1) (f .sized .starting) in
+      let starts = entries-below (lists-right book g f .1) in
       routine-behind g r ∙
       ap withoutOrders
       (each-other inStage1 (staying g) (halted g) r (none-kept (stays g)) ∙
@@ -140,18 +137,17 @@ module _ (book : List ℕ) (g : Game) (a : Accepted book) (f : Fits book g) wher
   range = a .laid .counts
 
   pub listed-distinct : Distinct (entriesOf (atStart g .game .listed))
-  listed-distinct =
-      entries-distinct (atStart g .game .listed) (listed-right book g range f .0) (listed-right book g range f .1)
+  listed-distinct = entries-distinct (listed-right book g range f)
 
   pub listed-below : All (λ r. r < routinesOf book) (entriesOf (atStart g .game .listed))
   listed-below = rw (at-start-entries book g range f) (kept-below book g range f (stays g))
 
   -- in the playing order, and among its entries
   pub listed-among : (r : ℕ) → In (atStart g .game .listed) r → Among r (entriesOf (atStart g .game .listed))
-  listed-among = in-among (atStart g .game .listed) (listed-right book g range f .0) (listed-right book g range f .1)
+  listed-among = in-among (listed-right book g range f)
 
   pub among-listed : (r : ℕ) → Among r (entriesOf (atStart g .game .listed)) → In (atStart g .game .listed) r
-  among-listed = among-in (atStart g .game .listed) (listed-right book g range f .0) (listed-right book g range f .1)
+  among-listed = among-in (listed-right book g range f)
 
   pub listed-stage : (r : ℕ) → In (atStart g .game .listed) r → routineAt (atStart g .game) r .stage ≡ continuing
   listed-stage r (i, h, e) =

@@ -13,8 +13,7 @@ use Rattle.numbers.proofs.Below.{without, without-other, below-without}
 use Rattle.round.specs.Counting.{sumOver, Among}
 use Rattle.round.specs.Actions.{kept}
 use Rattle.round.proofs.Counting.{one}
-use Rattle.round.proofs.Along.{All, Distinct}
-use Rattle.round.proofs.Listing.{among-or}
+use Rattle.round.proofs.Among.{All, Distinct, among-or}
 
 pub over-le : (f g : ℕ → ℕ) (rs : List ℕ) → ((r : ℕ) → Among r rs → f r ≤ g r) → sumOver f rs ≤ sumOver g rs
 unfolding sumOver

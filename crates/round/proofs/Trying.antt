@@ -19,7 +19,8 @@ use Rattle.round.specs.Ticks.{effectOn}
 use Rattle.round.specs.Rounds.{ticks, ticksOf, turn}
 use Rattle.round.specs.Demand.{endsRoutine, Comes}
 use Rattle.round.proofs.Acts.{Right, Says, Stops}
-use Rattle.round.proofs.Histories.{says-none, somewhere-append, in-first, in-second}
+use Rattle.round.proofs.Among.{somewhere-append, in-first, in-second}
+use Rattle.round.proofs.Histories.{says-none}
 use Rattle.round.proofs.Stepping.{ticks-by}
 use Rattle.round.proofs.Sound.{Sound}
 use Rattle.round.proofs.Standings.{StillThere}

@@ -30,7 +30,8 @@ use Rattle.round.specs.Demand.{endsRoutine, Comes}
 use Rattle.round.proofs.Acts.{Stops}
 use Rattle.round.proofs.Coming.{Carries, all-brought, turn-untouched, ticks-carry}
 use Rattle.round.proofs.Effects.{Untouched}
-use Rattle.round.proofs.Histories.{many-append, none-of-both, none-told, somewhere-append, in-second, end-ends}
+use Rattle.round.proofs.Among.{somewhere-append, in-second}
+use Rattle.round.proofs.Histories.{many-append, none-of-both, none-told, end-ends}
 use Rattle.round.proofs.Standings.{SameStanding, same-standing, StillThere}
 use Rattle.round.proofs.AfterTurn.{going-parts, turn-by, placed-there}
 use Rattle.round.proofs.Shaping.{Shape}

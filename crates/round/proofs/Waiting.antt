@@ -13,7 +13,8 @@ use Rattle.numbers.proofs.Tests.{clash}
 use Rattle.round.specs.State.{State, Happening}
 use Rattle.round.specs.Counting.{Among}
 use Rattle.round.specs.Rounds.{Turn, took, Played, followedBy, isDone, allDone, turn, pass}
-use Rattle.round.proofs.Along.{All, pass-along}
+use Rattle.round.proofs.Among.{All}
+use Rattle.round.proofs.Along.{pass-along}
 use Rattle.round.proofs.Histories.{moves-append, nothing-comes}
 use Rattle.round.proofs.TurnLaws.{isGoing, moves, Passed, passed-same, others-going, waits-too, Lacks, TurnLaws}
 

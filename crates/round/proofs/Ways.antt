@@ -24,7 +24,7 @@ use Rattle.round.specs.Rounds.{stageAfter, afterTurn, listedIn, ticksOf,
 use Rattle.round.specs.Replay.{placeAfter}
 use Rattle.round.specs.Whole.{LeftAt, Plays}
 use Rattle.round.proofs.TurnLaws.{takesTurn, isGoing}
-use Rattle.round.proofs.Histories.{in-first, in-second}
+use Rattle.round.proofs.Among.{in-first, in-second}
 use Rattle.round.proofs.Standings.{SameStanding, same-standing}
 use Rattle.round.proofs.Parsed.{size-same}
 use Rattle.round.proofs.Sound.{Sound}

@@ -18,7 +18,6 @@ use Rattle.book.specs.Accepted.{Accepted}
 use Rattle.game.specs.declared.Routine.{Routine}
 use Rattle.lines.specs.Lines.{entriesOf}
 use Rattle.game.specs.Game.{continuing, routineAt}
-use Rattle.fitting.proofs.Decides.{fit-lists}
 use Rattle.round.specs.declared.Ending.{Ending}
 use Rattle.round.specs.declared.Ending.the-variants.{Ended, Rested, Missed, Continued}
 use Rattle.round.specs.declared.Position.{Position}
@@ -28,8 +27,9 @@ use Rattle.round.specs.Jumps.{sizeOf}
 use Rattle.round.specs.Rounds.{Ticks, mostTicks, afterTurn, took, Played, notTaken, taken, allDone, again, ticksOf, turn, pass, instant}
 use Rattle.round.specs.Answers.{marksIn}
 use Rattle.round.specs.Enough.{RoundEnds}
-use Rattle.round.proofs.Along.{All}
+use Rattle.round.proofs.Among.{All}
 use Rattle.round.proofs.Entries.{entries-below}
+use Rattle.round.proofs.Listing.{lists-right}
 use Rattle.round.proofs.Sound.{Sound}
 use Rattle.round.proofs.TurnLaws.{isGoing}
 use Rattle.round.proofs.Parsed.{size-same}
@@ -163,7 +163,7 @@ module _ (book : List ℕ) (a : Accepted book) where
   listed s = entriesOf (s .game .listed)
 
   listed-below : (s : State) → Sound book s → All (λ r. r < R) (listed s)
-  listed-below s sound = entries-below (s .game .listed) (fit-lists book (s .game) (sound .fits) .0) (sound .fits .sized .listed)
+  listed-below s sound = entries-below (lists-right book (s .game) (sound .fits) .0)
 
   pub pass-by-rules :
       (run : ℕ → Instruction) (s : State) (ms : Marks) → Stands book a run (s .game) → Sound book s →
