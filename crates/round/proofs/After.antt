@@ -79,13 +79,14 @@ module _ (book : List ℕ) (a : Accepted book) where
     unfolding round
     round-along Claim none both turns agains =
         let L = listedIn g in
+        let start = at-start-sound book g a f in
         let Below : ℕ → Type 0 = λ r. r < routinesOf book in
         instant-along Claim none both book (Sound book) (λ r. Below r × Among r L) (λ r s l. turn-sound book a r s (l .0)) turns
-        again-sound agains mostPasses L (all-among Below L (listed-below book g a f)) (atStart g) (at-start-sound book g a f) .1
+        again-sound agains mostPasses L (all-among Below L (listed-below start)) (atStart g) start .1
 
     pub round-keeps : Sound book (back book g) × Kept (atStart g) (back book g)
     unfolding round
-    round-keeps = instant-keeps mostPasses (listedIn g) (listed-below book g a f) (atStart g) (at-start-sound book g a f)
+    round-keeps = let start = at-start-sound book g a f in instant-keeps mostPasses (listedIn g) (listed-below start) (atStart g) start
 
     pub round-fits : Fits book (back book g .game)
     round-fits = round-keeps .0 .fits

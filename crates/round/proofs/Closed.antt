@@ -25,13 +25,13 @@ module _ (book : List ℕ) (a : Accepted book) (g : Game) (f : Fits book g) wher
   begins-sound : {s : State} → Begins book g s → Sound book s
   begins-sound Begins.first = at-start-sound book g a f
   begins-sound (Begins.next {s} b h) =
-      let below = listed-below book g a f in
+      let below = listed-below (at-start-sound book g a f) in
       again-sound _ (pass-stays (turn-laws book a) (listedIn g) below s (begins-sound b))
 
   pub closes : {s : State} → Begins book g s → s .eoi ≡ true → Closes book g s
   unfolding atStart
   closes Begins.first e = clash e refl
   closes (Begins.next {s} b h) e =
-      let below = listed-below book g a f in
+      let below = listed-below (at-start-sound book g a f) in
       let (none, done) = closing-pass (turn-laws book a) (listedIn g) below s (begins-sound b) (not-true _ e) in
       record { noSignal = omega arith; noEnd = omega arith; done = done }

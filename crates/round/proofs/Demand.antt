@@ -51,8 +51,8 @@ module _ (book : List ℕ) (a : Accepted book) (g : Game) (f : Fits book g) wher
   fair : FairRound (listedIn g) (round book g)
   unfolding round atStart
   fair =
-      fair-round (turn-laws book a) (listedIn g) (listed-below book g a f) mostPasses (atStart g) (at-start-sound book g a f) refl refl
-      (enough book a g f .passes)
+      let start = at-start-sound book g a f in
+      fair-round (turn-laws book a) (listedIn g) (listed-below start) mostPasses (atStart g) start refl refl (enough book a g f .passes)
 
   -- no listed routine is left to take a turn
   pub none-going : (r : ℕ) → Among r (listedIn g) → isGoing last r ≡ false

@@ -29,8 +29,7 @@ use Rattle.round.proofs.Among.{All, among-all, kept-short}
 use Rattle.round.proofs.Sound.{Sound}
 use Rattle.round.proofs.TurnLaws.{isGoing, moves}
 use Rattle.round.proofs.Sums.{over-le, kept-sum}
-use Rattle.round.proofs.Entries.{entries-length}
-use Rattle.round.proofs.Listing.{lists-right}
+use Rattle.round.proofs.Actions.{staying-short, at-start-entries}
 use Rattle.round.proofs.Starting.{at-start-sound, listed-distinct, listed-below}
 use Rattle.round.proofs.Lasting.{routine-in-time, left-most}
 use Rattle.round.proofs.Paying.{worth, leftOf, turn-pays, mayEnd, ends-pay}
@@ -106,19 +105,17 @@ module _ (book : List ℕ) (a : Accepted book) where
 
   module _ (g : Game) (f : Fits book g) where
     few-listed : length (listedIn g) ≤ mostRoutines
-    few-listed =
-        let start = at-start-sound book g a f in
-        let few = start .fits .lengthsInRange .0 in
-        omega (arith, entries-length (lists-right book (atStart g .game) (start .fits) .0))
+    few-listed = let range = a .laid .counts in rw (at-start-entries book g range f) (staying-short book g range f)
 
     passes-enough : RoundEnds book mostPasses (listedIn g) (atStart g)
     unfolding atStart
     passes-enough =
-        let all = listed-below book g a f in
+        let start = at-start-sound book g a f in
+        let all = listed-below start in
         let set = isSignalStep book in
         let few = few-steps book a set (listedIn g) (listed-distinct book g a f) all in
         round-ends (turn-laws book a) (listedIn g) all (budget (listedIn g)) (pass-spends (listedIn g) all)
-        (λ s. refl) mostPasses (atStart g) (at-start-sound book g a f) refl refl
+        (λ s. refl) mostPasses (atStart g) start refl refl
         (omega (arith, few, total-left set (listedIn g) all (atStart g), total-ends (listedIn g) (atStart g), few-listed))
 
     pub enough : Enough book g

@@ -18,7 +18,7 @@ use Rattle.round.specs.Rounds.{took, Played, followedBy, mostPasses, lis
 use Rattle.round.specs.Whole.{isMiss, lacksThing}
 use Rattle.round.proofs.Acts.{Stops, ends, rests, misses, continues}
 use Rattle.round.proofs.Along.{instant-by}
-use Rattle.round.proofs.Starting.{listed-below}
+use Rattle.round.proofs.Starting.{listed-below, at-start-sound}
 use Rattle.round.proofs.Histories.{many-append}
 use Rattle.round.proofs.AfterTurn.{turn-by}
 use Rattle.round.proofs.Outcomes.{turn-shape}
@@ -53,4 +53,4 @@ module _ (book : List ℕ) (a : Accepted book) where
   unfolding round howMany
   misses-told g f =
       instant-by (λ s p. TellsMisses p) (λ s. refl) (λ s. misses-both) book (λ r. r < routinesOf book) turn-misses (λ s p h. h) mostPasses
-      (listedIn g) (listed-below book g a f) (atStart g)
+      (listedIn g) (listed-below (at-start-sound book g a f)) (atStart g)

@@ -15,7 +15,7 @@ use Rattle.round.specs.Rounds.{listedIn, historyOf}
 use Rattle.round.specs.Answers.{opMark, marksIn}
 use Rattle.round.specs.Demand.{isSignalStep, givesSignal}
 use Rattle.round.specs.Completed.{completes, theStep, isMarkStep, isAddition, CompletedOnce}
-use Rattle.round.proofs.Starting.{listed-distinct, listed-below}
+use Rattle.round.proofs.Starting.{listed-distinct, listed-below, at-start-sound}
 use Rattle.round.proofs.Paying.{leftOf, turn-pays}
 use Rattle.round.proofs.PayingPasses.{round-pays}
 use Rattle.round.proofs.Accounts.{numbers-few, signals-completed, marks-completed}
@@ -26,7 +26,7 @@ use Rattle.round.proofs.Enough.{total-left}
 module _ (book : List ℕ) (a : Accepted book) (g : Game) (f : Fits book g) where
   each-once : (set : ℕ → ℕ → Bool) → howMany (completes set) (historyOf book g) ≤ stepsIn book set (listedIn g)
   each-once set =
-      let below = listed-below book g a f in
+      let below = listed-below (at-start-sound book g a f) in
       let paid = round-pays book a (completes set) (leftOf book a set) (turn-pays book a set) g f in
       omega (arith, total-left book a set (listedIn g) below (atStart g))
 
@@ -38,7 +38,7 @@ module _ (book : List ℕ) (a : Accepted book) (g : Game) (f : Fits book g) wher
 
   pub completed-once : CompletedOnce book g
   completed-once =
-      let below = listed-below book g a f in
+      let below = listed-below (at-start-sound book g a f) in
       let distinct = listed-distinct book g a f in
       record {
         once = each-once;

@@ -18,6 +18,7 @@ use Rattle.game.specs.Game.{continuing, rested, ended, stopped, blank, routineA
 use Rattle.fitting.specs.Fits.{In, Fits}
 use Rattle.fitting.proofs.Routines.{UnderWay}
 use Rattle.round.specs.declared.Position.{Position}
+use Rattle.round.specs.State.{State}
 use Rattle.round.specs.Actions.{kept, inStage1, inStage4, withoutOrders, atStart}
 use Rattle.round.proofs.Among.{in-first, in-second, All, among-all, Distinct, among-or, among-kept, distinct-kept}
 use Rattle.round.proofs.Sound.{Sound}
@@ -26,6 +27,10 @@ use Rattle.round.proofs.Actions.{each-length, each-other, each-given, s
 use Rattle.round.proofs.Actions.{halted, last, at-start-routines, at-start-positions, kept-below, staying-short, at-start-entries}
 use Rattle.round.proofs.Listing.{appended-right, lists-right, joined-entries, joined-distinct}
 use Rattle.round.specs.Counting.{Among}
+
+-- the playing order of a sound state is of routines of the book
+pub listed-below : {book : List ℕ} {s : State} → Sound book s → All (λ r. r < routinesOf book) (entriesOf (s .game .listed))
+listed-below {book} {s} sound = entries-below (lists-right book (s .game) (sound .fits) .0)
 
 -- a stage that is not under way
 abbrev Idle : ℕ → Type 0
@@ -138,9 +143,6 @@ module _ (book : List ℕ) (g : Game) (a : Accepted book) (f : Fits book g) wher
 
   pub listed-distinct : Distinct (entriesOf (atStart g .game .listed))
   listed-distinct = entries-distinct (listed-right book g range f)
-
-  pub listed-below : All (λ r. r < routinesOf book) (entriesOf (atStart g .game .listed))
-  listed-below = rw (at-start-entries book g range f) (kept-below book g range f (stays g))
 
   -- in the playing order, and among its entries
   pub listed-among : (r : ℕ) → In (atStart g .game .listed) r → Among r (entriesOf (atStart g .game .listed))

@@ -28,8 +28,7 @@ use Rattle.round.specs.Rounds.{Ticks, mostTicks, afterTurn, took, Played, notTa
 use Rattle.round.specs.Answers.{marksIn}
 use Rattle.round.specs.Enough.{RoundEnds}
 use Rattle.round.proofs.Among.{All}
-use Rattle.round.proofs.Entries.{entries-below}
-use Rattle.round.proofs.Listing.{lists-right}
+use Rattle.round.proofs.Starting.{listed-below}
 use Rattle.round.proofs.Sound.{Sound}
 use Rattle.round.proofs.TurnLaws.{isGoing}
 use Rattle.round.proofs.Parsed.{size-same}
@@ -162,15 +161,12 @@ module _ (book : List ℕ) (a : Accepted book) where
   abbrev listed : State → List ℕ
   listed s = entriesOf (s .game .listed)
 
-  listed-below : (s : State) → Sound book s → All (λ r. r < R) (listed s)
-  listed-below s sound = entries-below (lists-right book (s .game) (sound .fits) .0)
-
   pub pass-by-rules :
       (run : ℕ → Instruction) (s : State) (ms : Marks) → Stands book a run (s .game) → Sound book s →
       let d = pass book (entriesOf (s .game .listed)) s in
       d .state .tooMany ≡ false → PassRule book a run s ms d
   pass-by-rules run s ms stand sound few =
-      let (to, rule, stand-last) = turns-by-rules (listed s) (listed-below s sound) run s ms stand sound few in
+      let (to, rule, stand-last) = turns-by-rules (listed s) (listed-below sound) run s ms stand sound few in
       (to, execution (actual-seen s ms) rule, stand-last)
 
   pub instant-by-rules :
@@ -187,11 +183,11 @@ module _ (book : List ℕ) (a : Accepted book) where
       let rs = listed s in
       let first = pass book rs s in
       let u = again (first .state) in
-      let (sound-last, kept) = pass-keeps book a rs (listed-below s sound) s sound in
+      let (sound-last, kept) = pass-keeps book a rs (listed-below sound) s sound in
       let same : listed u ≡ rs = ap (λ l. entriesOf l) (kept .listed) in
       let sound-again = again-sound (first .state) sound-last in
       let few-last : instant book n rs u .played .state .tooMany ≡ false = rw undone at few in
-      let few-first = instant-keeps book a n rs (listed-below s sound) u sound-again .1 .few few-last in
+      let few-first = instant-keeps book a n rs (listed-below sound) u sound-again .1 .few few-last in
       let (to, rule, stand-first) = pass-by-rules run s ms stand sound few-first in
       let flags = again-seen (first .state) (ms ++ marksIn (first .told)) in
       given (rw same at (instant-by-rules n to u (ms ++ marksIn (first .told)) stand-first sound-again (rw same ends) (rw same few-last)))
