@@ -2,9 +2,11 @@
 -- was too many, that stays noted. The state behind the eight actions is sound, and turns keep it so; hence what holds of each turn in a
 -- sound state holds of a round.
 use Prim.Native.Nat.{ℕ, _<_}
-use mathlib.Core.Path.{_≡_, refl, _∙_}
+use mathlib.Core.Path.{_≡_, refl, _∙_, subst}
 use mathlib.Core.Bool.{Bool, false}
 use mathlib.Core.List.{List, [], _++_}
+use mathlib.Core.Logic.{_≢_}
+use native.Mathlib.Decide.{ℕ-discrete}
 use lib.IntN.{ℤ}
 use Rattle.verdicts.specs.Verdicts.{accepted}
 use Rattle.layout.specs.Layout.{routinesOf}
@@ -20,6 +22,7 @@ use Rattle.round.specs.Answers.{answer}
 use Rattle.round.proofs.Telling.{accepted-played}
 use Rattle.round.proofs.Among.{All, all-among}
 use Rattle.round.proofs.Along.{pass-along, instant-along}
+use Rattle.round.proofs.TurnLaws.{Turned}
 use Rattle.round.proofs.Sound.{Sound}
 use Rattle.round.proofs.Starting.{listed-below, at-start-sound}
 use Rattle.round.proofs.Staying.{turn-sound, again-sound}
@@ -69,20 +72,36 @@ module _ (book : List ℕ) (a : Accepted book) where
       again-sound (λ s. flags-keep s)
 
   module _ (g : Game) (f : Fits book g) where
-    -- what holds of each turn of a listed routine in a sound state holds of a round
-    pub round-along :
-        (Claim : State → List Happening → State → Type 0) → ((s : State) → Claim s [] s) →
-        ((s u v : State) (b c : List Happening) → Claim s b u → Claim u c v → Claim s (b ++ c) v) →
-        ((r : ℕ) (s : State) → (r < routinesOf book) × Among r (listedIn g) → Sound book s →
-        Claim s (turn book r s .told) (turn book r s .state)) →
-        ((s : State) → Claim s [] (again s)) → Claim (atStart g) (historyOf book g) (back book g)
-    unfolding round
-    round-along Claim none both turns agains =
-        let L = listedIn g in
-        let start = at-start-sound book g a f in
-        let Below : ℕ → Type 0 = λ r. r < routinesOf book in
-        instant-along Claim none both book (Sound book) (λ r. Below r × Among r L) (λ r s l. turn-sound book a r s (l .0)) turns
-        again-sound agains mostPasses L (all-among Below L (listed-below start)) (atStart g) start .1
+    module _
+        (Claim : State → List Happening → State → Type 0) (none : (s : State) → Claim s [] s)
+        (both : (s u v : State) (b c : List Happening) → Claim s b u → Claim u c v → Claim s (b ++ c) v)
+      where
+        abbrev OfTurn : ℕ → State → Type 0
+        OfTurn r s = Claim s (turn book r s .told) (turn book r s .state)
+
+        -- what holds of each turn of a listed routine in a sound state holds of a round
+        pub round-along :
+            ((r : ℕ) (s : State) → (r < routinesOf book) × Among r (listedIn g) → Sound book s → OfTurn r s) →
+            ((s : State) → Claim s [] (again s)) → Claim (atStart g) (historyOf book g) (back book g)
+        unfolding round
+        round-along turns agains =
+            let L = listedIn g in
+            let start = at-start-sound book g a f in
+            let Below : ℕ → Type 0 = λ r. r < routinesOf book in
+            instant-along Claim none both book (Sound book) (λ r. Below r × Among r L) (λ r s l. turn-sound book a r s (l .0)) turns
+            again-sound agains mostPasses L (all-among Below L (listed-below start)) (atStart g) start .1
+
+        -- so does what holds of routine r's own turns, and of the others' by what a turn does
+        pub own-and-others :
+            (r : ℕ) → ((s : State) → r < routinesOf book → Sound book s → OfTurn r s) →
+            ((q : ℕ) (s : State) → r ≢ q → Turned q s (turn book q s .told) (turn book q s .state) → OfTurn q s) →
+            ((s : State) → Claim s [] (again s)) → Claim (atStart g) (historyOf book g) (back book g)
+        own-and-others r own other =
+            round-along (λ q s (l, _) ok.
+            elim (ℕ-discrete r q) [
+              | yes e ↦ subst (λ i. i < routinesOf book → OfTurn i s) e (λ m. own s m ok) l
+              | no n ↦ other q s n (turn-turned book a q s l ok)
+            ])
 
     pub round-keeps : Sound book (back book g) × Kept (atStart g) (back book g)
     unfolding round

@@ -5,8 +5,7 @@ use Prim.Native.Nat.{ℕ, _<_}
 use mathlib.Core.Path.{_≡_, refl, sym, ap, _∙_, subst}
 use mathlib.Core.Bool.{true, false}
 use mathlib.Core.List.{List, [], _∷_, _++_}
-use mathlib.Core.Logic.{_⊎_, inl, inr, ⊎-elim, _≢_}
-use native.Mathlib.Decide.{ℕ-discrete}
+use mathlib.Core.Logic.{_⊎_, inl, inr, ⊎-elim}
 use Rattle.numbers.proofs.Tests.{clash, by-flag}
 use Rattle.kinds.specs.Steps.{stepAt}
 use Rattle.layout.specs.Layout.{routinesOf, countsOf}
@@ -24,11 +23,10 @@ use Rattle.round.specs.Demand.{Comes, IsPast}
 use Rattle.round.proofs.Acts.{Asks}
 use Rattle.round.proofs.TurnLaws.{isGoing, waits-at}
 use Rattle.round.proofs.Among.{somewhere-append, in-first, in-second}
-use Rattle.round.proofs.After.{back, round-along}
+use Rattle.round.proofs.After.{back, own-and-others}
 use Rattle.round.proofs.Sound.{Sound}
 use Rattle.round.proofs.Starting.{among-listed, listed-stage}
 use Rattle.round.proofs.Standings.{SameStanding, same-standing, StillThere}
-use Rattle.round.proofs.Turned.{turn-turned}
 use Rattle.round.proofs.Again.{misses-again, goes-past}
 use Rattle.round.proofs.Closing.{there-again}
 use Rattle.round.proofs.CatchingUp.{never-missing}
@@ -48,10 +46,6 @@ module _ (P : Happening → Type 0) where
   told-at : (told : List Happening) → Somewhere P told → (h : Happening) × (b c : List Happening) × P h × (told ≡ b ++ (h ∷ c))
   told-at (h ∷ told) (inl p) = (h, [], told, p, refl)
   told-at (h ∷ told) (inr w) = let (k, b, c, p, e) = told-at told w in (k, h ∷ b, c, p, ap (λ l. h ∷ l) e)
-
--- a claim on any routine q, from one on routine r and one on q if it is another
-pub own-or-other : (P : ℕ → Type 0) (r q : ℕ) → P r → (r ≢ q → P q) → P q
-own-or-other P r q own other = elim (ℕ-discrete r q) [ yes e ↦ subst P e own | no n ↦ other n ]
 
 -- routine r, where it stands when the passes begin
 module _ (g : Game) (r : ℕ) where
@@ -75,15 +69,10 @@ module _ (book : List ℕ) (a : Accepted book) (g : Game) (f : Fits book g) (r :
       Claim s told u)
       (own : (s : State) → r < routinesOf book → Sound book s → Claim s (turn book r s .told) (turn book r s .state))
     where
-      each-turn :
-          (q : ℕ) (s : State) → q < routinesOf book → Sound book s → Claim s (turn book q s .told) (turn book q s .state)
-      each-turn q s l ok =
-          own-or-other (λ i. i < routinesOf book → Claim s (turn book i s .told) (turn book i s .state)) r q (λ m. own s m ok)
-          (λ n m. let turned = turn-turned book a q s m ok in others s _ _ (turned .standings .others r n) (turned .keeps)) l
-
       pub round-of-one : Claim (atStart g) (historyOf book g) (back book g)
       round-of-one =
-          round-along book a g f Claim (λ s. others s s [] same-standing (λ t h. h)) both (λ q s l. each-turn q s (l .0))
+          own-and-others book a g f Claim (λ s. others s s [] same-standing (λ t h. h)) both r own
+          (λ q s n turned. others s _ _ (turned .standings .others r n) (turned .keeps))
           (λ s. others s (again s) [] same-standing (λ t h. there-again s t ∙ h))
 
   module _ (inside : Among r (listedIn g)) (unsuspended : routineAt (atStart g .game) r .suspended ≡ false) where

@@ -16,22 +16,19 @@ use Rattle.fitting.specs.Fits.{Fits}
 use Rattle.round.specs.declared.Effect.{Effect}
 use Rattle.round.specs.declared.Position.{Position}
 use Rattle.round.specs.State.{State, Happening, completed}
-use Rattle.round.specs.Counting.{howMany, Among}
+use Rattle.round.specs.Counting.{howMany}
 use Rattle.round.specs.Actions.{positionOf, atStart}
-use Rattle.round.specs.Rounds.{listedIn, turn, historyOf}
+use Rattle.round.specs.Rounds.{turn, historyOf}
 use Rattle.round.specs.Whole.{isOf, Plays}
 use Rattle.round.proofs.Acts.{Says}
 use Rattle.round.proofs.TurnLaws.{isGoing}
 use Rattle.round.proofs.Stepping.{ticks-along}
 use Rattle.round.proofs.Histories.{none-of-both, says-none, stops-none}
 use Rattle.round.proofs.Standings.{SameStanding, same-standing, standing-then}
-use Rattle.round.proofs.Sound.{Sound}
 use Rattle.round.proofs.AfterTurn.{going-parts, turn-by, turn-over}
-use Rattle.round.proofs.Turned.{turn-turned}
 use Rattle.round.proofs.Actions.{at-start-positions}
 use Rattle.round.proofs.Starting.{at-start-sound, listed-among}
-use Rattle.round.proofs.After.{back, round-along}
-use Rattle.round.proofs.FirstTurn.{own-or-other}
+use Rattle.round.proofs.After.{back, own-and-others}
 
 -- nothing that is told is of routine r
 abbrev pub Untold : ℕ → List Happening → Type 0
@@ -72,16 +69,13 @@ module _ (book : List ℕ) (a : Accepted book) (g : Game) (f : Fits book g) (r :
       let (last, two, still) = second between in
       (last, none-of-both (isOf r) b c one two, standing-then stays still)
 
-  aside-turn :
-      (q : ℕ) (s : State) → (q < routinesOf book) × Among q (listedIn g) → Sound book s →
-      Aside s (turn book q s .told) (turn book q s .state)
-  unfolding howMany
-  aside-turn q s (l, _) ok =
-      own-or-other (λ i. i < routinesOf book → Aside s (turn book i s .told) (turn book i s .state)) r q
-      (λ m off. rw (turn-over book r s off) (off, refl, same-standing))
-      (λ n m off.
-      let same = turn-turned book a q s m ok .standings .others r n in
-      (rw (same .suspended, same .stage) off, turn-untold book r q (λ e. n (sym e)) s, same)) l
+  aside-always : Aside (atStart g) (historyOf book g) (back book g)
+  aside-always =
+      own-and-others book a g f Aside aside-none aside-both r (λ s l ok off. rw (turn-over book r s off) (aside-none s off))
+      (λ q s n turned off.
+      let same = turned .standings .others r n in
+      (rw (same .suspended, same .stage) off, turn-untold book r q (λ e. n (sym e)) s, same))
+      aside-none
 
   pub untold :
       r < routinesOf book → (Plays g r → ⊥) →
@@ -95,5 +89,5 @@ module _ (book : List ℕ) (a : Accepted book) (g : Game) (f : Fits book g) (r :
       let listed = at-start-sound book g a f .fits .listedStages r below (inl stage) in
       absurd (out (listed-among book g a f r listed, unsuspended)))
       (λ h. h) in
-      let (_, none, same) = round-along book a g f Aside aside-none aside-both aside-turn aside-none off in
+      let (_, none, same) = aside-always off in
       (none, same .position ∙ at-start-positions g r)

@@ -18,9 +18,8 @@ use Rattle.round.specs.declared.Ending.{Ending}
 use Rattle.round.specs.declared.Ending.the-variants.{Ended, Rested, Missed, Continued}
 use Rattle.round.specs.declared.Position.{Position}
 use Rattle.round.specs.State.{State, Thing, Happening, missing, completed}
-use Rattle.round.specs.Counting.{Among}
 use Rattle.round.specs.Actions.{positionOf, placed, atStart}
-use Rattle.round.specs.Rounds.{stageAfter, afterTurn, listedIn, ticksOf, turn, historyOf}
+use Rattle.round.specs.Rounds.{stageAfter, afterTurn, ticksOf, turn, historyOf}
 use Rattle.round.specs.Replay.{placeAfter}
 use Rattle.round.specs.Whole.{LeftAt, Plays}
 use Rattle.round.proofs.TurnLaws.{takesTurn, isGoing}
@@ -30,11 +29,10 @@ use Rattle.round.proofs.Parsed.{size-same}
 use Rattle.round.proofs.Sound.{Sound}
 use Rattle.round.proofs.Coming.{turn-untouched}
 use Rattle.round.proofs.AfterTurn.{going-parts, after-few, turn-by, routine-after}
-use Rattle.round.proofs.Turned.{turn-turned}
 use Rattle.round.proofs.Actions.{at-start-positions}
-use Rattle.round.proofs.After.{back, round-along}
+use Rattle.round.proofs.After.{back, own-and-others}
 use Rattle.round.proofs.Demand.{none-lost, none-going}
-use Rattle.round.proofs.FirstTurn.{own-or-other, due-first}
+use Rattle.round.proofs.FirstTurn.{due-first}
 use Rattle.round.proofs.Replays.{contentsOf, Makes, makes-same, makes-both, turn-makes}
 use Rattle.round.proofs.Untold.{turn-untold}
 use Rattle.round.proofs.Places.{Here, InPlace, in-rest, walked, untold-still, Halted, own-ticks}
@@ -143,12 +141,10 @@ module _ (book : List ℕ) (a : Accepted book) (g : Game) (f : Fits book g) (r :
           (λ h. walks-none s .1) (λ h few. came-on s ok h (after-few r (ticksOf book r s) few)),
     )
 
-  each-turn :
-      (q : ℕ) (s : State) → (q < routinesOf book) × Among q (listedIn g) → Sound book s →
-      Walks s (turn book q s .told) (turn book q s .state)
-  each-turn q s (l, _) ok =
-      own-or-other (λ i. i < routinesOf book → Walks s (turn book i s .told) (turn book i s .state)) r q (λ m. walks-own m s ok)
-      (λ n m. walks-aside q s (λ e. n (sym e)) (turn-turned book a q s m ok .standings .others r n)) l
+  walks-round : Walks (atStart g) (historyOf book g) (back book g)
+  walks-round =
+      own-and-others book a g f Walks walks-none walks-both r (λ s l. walks-own l s)
+      (λ q s n turned. walks-aside q s (λ e. n (sym e)) (turned .standings .others r n)) walks-none
 
   abbrev first : ℕ
   first = routineAt g r .place
@@ -163,7 +159,7 @@ module _ (book : List ℕ) (a : Accepted book) (g : Game) (f : Fits book g) (r :
       InPlace book r (historyOf book g) (g .counters, []) first ×
       Stands (historyOf book g) (placeAfter book r (historyOf book g) (g .counters, []) first) (back book g)
   unfolding atStart
-  all = round-along book a g f Walks walks-none walks-both each-turn walks-none .1 (none-lost book a g f) [] first starts
+  all = walks-round .1 (none-lost book a g f) [] first starts
 
   at-place :
       (h : Happening) (p q : ℕ) → (h ≡ completed r q) ⊎ ((t : Thing) × (h ≡ missing r q t)) → Here book r h p → p ≡ q
