@@ -18,7 +18,6 @@ use Rattle.book.specs.Accepted.{Accepted}
 use Rattle.game.specs.declared.Game.{Game}
 use Rattle.game.specs.Game.{continuing, rested, ended, notStarted, stopped, routineAt}
 use Rattle.fitting.specs.Fits.{Fits, In}
-use Rattle.round.specs.State.{State}
 use Rattle.round.specs.Counting.{Among}
 use Rattle.round.specs.Actions.{atStart}
 use Rattle.round.specs.Rounds.{mostPasses, listedIn, round}
@@ -33,7 +32,7 @@ use Rattle.round.proofs.TurnLaws.{isGoing}
 use Rattle.round.proofs.Lawful.{turn-laws}
 use Rattle.round.proofs.Enough.{enough}
 use Rattle.round.proofs.Once.{completed-once}
-use Rattle.round.proofs.After.{round-keeps}
+use Rattle.round.proofs.After.{back, round-keeps}
 
 -- of the stages of a listed routine, those in which it does not go on
 rests-or-ends :
@@ -45,9 +44,6 @@ rests-or-ends stage l on out =
     elim (ℕ-discrete stage rested) [ yes e ↦ inl e | no n ↦ inr (omega arith) ]
 
 module _ (book : List ℕ) (a : Accepted book) (g : Game) (f : Fits book g) where
-  abbrev last : State
-  last = round book g .played .state
-
   fair : FairRound (listedIn g) (round book g)
   unfolding round atStart
   fair =
@@ -55,28 +51,28 @@ module _ (book : List ℕ) (a : Accepted book) (g : Game) (f : Fits book g) wher
       fair-round (turn-laws book a) (listedIn g) (listed-below start) mostPasses (atStart g) start refl refl (enough book a g f .passes)
 
   -- no listed routine is left to take a turn
-  pub none-going : (r : ℕ) → Among r (listedIn g) → isGoing last r ≡ false
+  pub none-going : (r : ℕ) → Among r (listedIn g) → isGoing (back book g) r ≡ false
   none-going = fair .noneGoing
 
   -- no more numbers are given than are kept, so every one that is told is there
-  pub none-lost : last .tooMany ≡ false
+  pub none-lost : back book g .tooMany ≡ false
   none-lost = too-many book g ∙ le-ltb _ _ (completed-once book a g f .numbers)
 
   rested-or-ended :
       (r : ℕ) → Among r (listedIn g) → routineAt (atStart g .game) r .suspended ≡ false →
-      (routineAt (last .game) r .stage ≡ rested) ⊎ (routineAt (last .game) r .stage ≡ ended)
+      (routineAt (back book g .game) r .stage ≡ rested) ⊎ (routineAt (back book g .game) r .stage ≡ ended)
   rested-or-ended r i unsuspended =
       let (sound, kept) = round-keeps book a g f in
       let fits = sound .fits in
       let (k, l, e) = among-listed book g a f r i in
       let lower : r < routinesOf book = subst (λ q. q < routinesOf book) e (at-start-sound book g a f .fits .entriesInRange .0 k l) in
-      let here : In (last .game .listed) r = rw (kept .listed) (k, l, e) in
+      let here : In (back book g .game .listed) r = rw (kept .listed) (k, l, e) in
       let off = none-going r i in
-      rests-or-ends (routineAt (last .game) r .stage) (fits .stagesInRange r lower)
+      rests-or-ends (routineAt (back book g .game) r .stage) (fits .stagesInRange r lower)
       (λ on. clash refl (rw (kept .suspended r ∙ unsuspended, eq-eqb _ _ on) at off))
       (λ out. fits .unlistedStages r lower out here)
 
-  pub demand-3 : Demand3 book g (round book g .passes) (last .game)
+  pub demand-3 : Demand3 book g (round book g .passes) (back book g .game)
   demand-3 =
       record {
         fewPasses = omega (arith, fair .few);

@@ -15,14 +15,14 @@ use Rattle.round.specs.declared.Position.{Position}
 use Rattle.round.specs.State.{State, Happening}
 use Rattle.round.specs.Counting.{sumOver, howMany, Among}
 use Rattle.round.specs.Actions.{atStart}
-use Rattle.round.specs.Rounds.{listedIn, turn, pass, round, historyOf}
+use Rattle.round.specs.Rounds.{listedIn, turn, pass, historyOf}
 use Rattle.round.proofs.Sums.{over-le}
 use Rattle.round.proofs.Histories.{many-append}
 use Rattle.round.proofs.Among.{All, all-among}
 use Rattle.round.proofs.Along.{pass-along}
 use Rattle.round.proofs.Sound.{Sound}
 use Rattle.round.proofs.Staying.{turn-sound}
-use Rattle.round.proofs.After.{round-along}
+use Rattle.round.proofs.After.{back, round-along}
 use Rattle.round.proofs.Paying.{worth, turn-spares}
 
 -- what some routines have left together
@@ -77,7 +77,7 @@ module _
     -- the flags for another pass leave everybody what it has
     pub round-pays :
         (g : Game) → Fits book g →
-        howMany test (historyOf book g) + total left (listedIn g) (round book g .played .state) ≤ total left (listedIn g) (atStart g)
+        howMany test (historyOf book g) + total left (listedIn g) (back book g) ≤ total left (listedIn g) (atStart g)
     round-pays g f =
         let L = listedIn g in
         round-along book a g f (Claim L) (claim-none L) (claim-both L) (claim-turn L) (claim-none L)

@@ -13,9 +13,9 @@ use Rattle.fitting.specs.Fits.{Fits}
 use Rattle.round.specs.State.{State, Thing, Happening, missing, past, isThere}
 use Rattle.round.specs.Counting.{Somewhere}
 use Rattle.round.specs.Actions.{atStart}
-use Rattle.round.specs.Rounds.{turn, round, historyOf}
+use Rattle.round.specs.Rounds.{turn, historyOf}
 use Rattle.round.specs.Demand.{Comes}
-use Rattle.round.proofs.After.{round-along}
+use Rattle.round.proofs.After.{back, round-along}
 use Rattle.round.proofs.Sound.{Sound}
 use Rattle.round.proofs.Turned.{turn-turned}
 use Rattle.numbers.proofs.Tests.{clash}
@@ -31,7 +31,7 @@ module _ (book : List ℕ) (a : Accepted book) where
       becomes-by (t .flags .few) (t .keeps) (t .brings) (t .came) (turn-order book a r s ok)
 
   module _ (g : Game) (f : Fits book g) where
-    all : Becomes (atStart g) (historyOf book g) (round book g .played .state)
+    all : Becomes (atStart g) (historyOf book g) (back book g)
     all =
         round-along book a g f Becomes (λ s. becomes-same refl (λ t. refl)) becomes-both (λ r s l. turn-becomes r s (l .0))
         (λ s. becomes-same refl (there-again s))
@@ -40,12 +40,12 @@ module _ (book : List ℕ) (a : Accepted book) where
     round-order = all .order (none-lost book a g f)
 
     -- what comes is there behind the round
-    pub comes : (t : Thing) → Somewhere (Comes t) (historyOf book g) → isThere (round book g .played .state) t ≡ true
+    pub comes : (t : Thing) → Somewhere (Comes t) (historyOf book g) → isThere (back book g) t ≡ true
     comes t w = all .there (none-lost book a g f) t .1 (inr w)
 
     -- what is new there has come
     pub came :
-        (t : Thing) → isThere (atStart g) t ≡ false → isThere (round book g .played .state) t ≡ true →
+        (t : Thing) → isThere (atStart g) t ≡ false → isThere (back book g) t ≡ true →
         Somewhere (Comes t) (historyOf book g)
     came t out there = ⊎-elim (λ k. clash k out) (λ w. w) (all .there (none-lost book a g f) t .0 there)
 
