@@ -36,10 +36,10 @@ appended-entries l (r ∷ rs) z h =
     rw (pushed-entries l r z room) (append-assoc (entriesOf l) (r ∷ []) rs)
 
 -- a list is right and has all its places
-abbrev pub Right : ℕ → Line → Type 0
-Right routines l = LineRight l routines × (length (l .items) ≡ mostEntries)
+abbrev pub SizedRight : ℕ → Line → Type 0
+SizedRight routines l = LineRight l routines × (length (l .items) ≡ mostEntries)
 
-module _ {l : Line} {routines : ℕ} (right : Right routines l) where
+module _ {l : Line} {routines : ℕ} (right : SizedRight routines l) where
   pub entries-length : length (entriesOf l) ≡ l .len
   entries-length = rw (used-all l (right .0 .short)) (length-take-le (l .len) (l .items) (omega (arith, right .0 .short)))
 

@@ -16,20 +16,21 @@ use Rattle.fitting.proofs.Lists.{joined, LineRight}
 use Rattle.fitting.proofs.Decides.{fit-lists}
 use Rattle.orders.proofs.Starts.{joined-right, joined-adds}
 use Rattle.round.proofs.Among.{All, all-append, among-all, Distinct, distinct-joined, distinct-few}
-use Rattle.round.proofs.Entries.{pushed-joined, appended-entries, Right, entries-length, among-in, entries-below, entries-distinct}
+use Rattle.round.proofs.Entries.{pushed-joined, appended-entries}
+use Rattle.round.proofs.Entries.{SizedRight, entries-length, among-in, entries-below, entries-distinct}
 use Rattle.round.specs.Counting.{Among}
 
 -- different routines of the book that are not in a list, appended to it
 appended-more :
-    (l : Line) {routines : ℕ} (rs : List ℕ) → Right routines l → l .len + length rs ≤ mostEntries → All (λ r. r < routines) rs →
-    Distinct rs → ((r : ℕ) → Among r rs → In l r → ⊥) → Right routines (appended l rs)
+    (l : Line) {routines : ℕ} (rs : List ℕ) → SizedRight routines l → l .len + length rs ≤ mostEntries → All (λ r. r < routines) rs →
+    Distinct rs → ((r : ℕ) → Among r rs → In l r → ⊥) → SizedRight routines (appended l rs)
 unfolding appended
 appended-more l [] right short below d new = right
 appended-more l {routines} (r ∷ rs) (t, z) short below d new =
     let room : l .len < mostEntries = omega arith in
-    let right : Right routines (joined l r) =
+    let right : SizedRight routines (joined l r) =
     (joined-right l r z room t (below .0) (new r (inl refl)), length-set (l .items) (l .len) r ∙ z) in
-    subst (λ m. Right routines (appended m rs)) (sym (pushed-joined l r z room))
+    subst (λ m. SizedRight routines (appended m rs)) (sym (pushed-joined l r z room))
     (appended-more (joined l r) rs right (omega arith) (below .1) (d .1) (λ q h k.
     ⊎-elim (new q (inr h)) (λ e. d .0 (rw e at h)) (joined-adds l r z room .only q k)))
 
@@ -38,7 +39,7 @@ module _ (rs : List ℕ) (short : length rs ≤ mostEntries) where
   pub entries-same : entriesOf (appended empty rs) ≡ rs
   entries-same = appended-entries empty rs refl (omega arith)
 
-  pub appended-right : {routines : ℕ} → All (λ r. r < routines) rs → Distinct rs → Right routines (appended empty rs)
+  pub appended-right : {routines : ℕ} → All (λ r. r < routines) rs → Distinct rs → SizedRight routines (appended empty rs)
   appended-right {routines} below d =
       let none : LineRight empty routines =
       record {
@@ -51,7 +52,9 @@ module _ (rs : List ℕ) (short : length rs ≤ mostEntries) where
       appended-more empty rs (none, refl) (omega arith) below d (λ r h (i, k, e). omega arith)
 
 -- the two lists of a game that fits
-pub lists-right : (book : List ℕ) (g : Game) → Fits book g → Right (routinesOf book) (g .listed) × Right (routinesOf book) (g .starting)
+pub lists-right :
+    (book : List ℕ) (g : Game) → Fits book g →
+    SizedRight (routinesOf book) (g .listed) × SizedRight (routinesOf book) (g .starting)
 lists-right book g f = let (l, s) = fit-lists book g f in ((l, f .sized .listed), (s, f .sized .starting))
 
 -- those listed and those to start, as action 1 joins them

@@ -22,7 +22,7 @@ use Rattle.round.specs.State.{State}
 use Rattle.round.specs.Actions.{kept, inStage1, inStage4, withoutOrders, atStart}
 use Rattle.round.proofs.Among.{in-first, in-second, All, among-all, Distinct, among-or, among-kept, distinct-kept}
 use Rattle.round.proofs.Sound.{Sound}
-use Rattle.round.proofs.Entries.{entries-below, in-among, among-in, entries-distinct, Right}
+use Rattle.round.proofs.Entries.{entries-below, in-among, among-in, entries-distinct, SizedRight}
 use Rattle.round.proofs.Actions.{each-length, each-other, each-given, startsOf, joinedOf, first, stops, stays, leaving, staying}
 use Rattle.round.proofs.Actions.{halted, last, at-start-routines, at-start-positions, kept-below, staying-short, at-start-entries}
 use Rattle.round.proofs.Listing.{appended-right, lists-right, joined-entries, joined-distinct}
@@ -120,7 +120,7 @@ module _ (book : List ℕ) (g : Game) (range : CountsInRange book) (f : Fits boo
       each-other inStage1 (startsOf g) (g .routines) r (none (startsOf g) starts) ∙
       f .routinesBeyond r l m)
 
-  listed-right : Right (routinesOf book) (atStart g .game .listed)
+  listed-right : SizedRight (routinesOf book) (atStart g .game .listed)
   unfolding atStart
   listed-right =
       appended-right (staying g) (staying-short book g range f) (kept-below book g range f (stays g))
