@@ -1,4 +1,4 @@
-pub mod Order
+pub mod Misplaced
 pub mod Parses
 pub mod Sound
 pub mod Views

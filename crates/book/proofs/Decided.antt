@@ -33,7 +33,7 @@ use Rattle.book.proofs.Parts.{step-of-book, step-routine}
 use Rattle.blocks.proofs.Views.{view-beyond, view-seen, view-inside}
 use Rattle.blocks.proofs.Parses.{routine-complete, lowest}
 use Rattle.blocks.proofs.Sound.{routine-sound, misnested, unreadable-at}
-use Rattle.blocks.proofs.Order.{misplaced-fault}
+use Rattle.blocks.proofs.Misplaced.{misplaced-fault}
 use Rattle.blocks.proofs.Whiles.{LowestAt, lowest-none, pausing-lowest, lowest-at, lowest-within, lowest-is}
 
 -- a test of the directory that tells nothing

@@ -1,5 +1,5 @@
 pub mod Decided
 pub mod Laid
-pub mod Laws
+pub mod Routines
 pub mod Parts
 pub mod Telling

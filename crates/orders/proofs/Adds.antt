@@ -15,7 +15,7 @@ use Rattle.fitting.proofs.Lists.{is-in}
 use Rattle.orders.specs.Orders.{orderVerdict, obeyed, ordered}
 use Rattle.orders.specs.Joined.{Joined, OnlyAdds}
 use Rattle.orders.proofs.Stores.{entry-set}
-use Rattle.setup.proofs.Games.{game-either}
+use Rattle.setup.proofs.Answers.{game-either}
 use Rattle.orders.proofs.Starts.{nothing-added, start-nothing, start-adds}
 use Rattle.orders.proofs.Telling.{told-right, order-tells}
 

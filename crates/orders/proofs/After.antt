@@ -13,7 +13,7 @@ use Rattle.setup.specs.declared.Outcome.{Outcome}
 use Rattle.setup.specs.SetUp.{GivesFitting}
 use Rattle.orders.specs.Orders.{orderVerdict, obeyed, ordered}
 use Rattle.orders.specs.Tells.{OrderTells}
-use Rattle.setup.proofs.Games.{game-lent}
+use Rattle.setup.proofs.Answers.{game-lent}
 use Rattle.orders.proofs.Obeyed.{obeyed-fits, obeyed-again}
 use Rattle.orders.proofs.Telling.{Right, told-right, order-told-only, order-tells}
 

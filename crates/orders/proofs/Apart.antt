@@ -10,7 +10,7 @@ use Rattle.game.specs.declared.Game.{Game}
 use Rattle.game.specs.Game.{blank, routineAt, withRoutines}
 use Rattle.orders.specs.Orders.{orderVerdict, obeyed, ordered}
 use Rattle.orders.specs.Without.{without}
-use Rattle.setup.proofs.Games.{game-either}
+use Rattle.setup.proofs.Answers.{game-either}
 
 routine-apart :
     (g : Game) (n : ℕ) (f : Routine → Routine) (y : Routine) → f y ≡ f (routineAt g n) →

@@ -1,5 +1,5 @@
--- The 21 kinds sorted by what a step comes to: it goes on, with an effect and what it tells of it, or it halts the turn, for one of four
--- reasons. Nearly all laws of turns speak of these.
+-- What a step comes to, in the few cases into which Sorting.antt sorts the 21 kinds: it goes on, with an effect and what it tells of it, or
+-- it halts the turn, for one of four reasons. Nearly all laws of turns speak of these cases.
 use Prim.Native.Nat.{ℕ, _+_, _<_, _≤_}
 use mathlib.Core.Path.{_≡_}
 use mathlib.Core.Bool.{Bool, true, false, _||_}

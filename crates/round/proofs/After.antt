@@ -24,8 +24,8 @@ use Rattle.round.proofs.Among.{All, all-among}
 use Rattle.round.proofs.Along.{pass-along, instant-along}
 use Rattle.round.proofs.TurnLaws.{Turned}
 use Rattle.round.proofs.Sound.{Sound}
-use Rattle.round.proofs.Starting.{listed-below, at-start-sound}
-use Rattle.round.proofs.Staying.{turn-sound, again-sound}
+use Rattle.round.proofs.StartSound.{listed-below, at-start-sound}
+use Rattle.round.proofs.TurnSound.{turn-sound, again-sound}
 use Rattle.round.proofs.Turned.{turn-turned}
 
 -- the state behind a round

@@ -15,8 +15,8 @@ use Rattle.round.specs.Actions.{atStart}
 use Rattle.round.specs.Rounds.{listedIn}
 use Rattle.round.specs.Again.{Begins, Closes}
 use Rattle.round.proofs.Sound.{Sound}
-use Rattle.round.proofs.Starting.{listed-below, at-start-sound}
-use Rattle.round.proofs.Staying.{again-sound}
+use Rattle.round.proofs.StartSound.{listed-below, at-start-sound}
+use Rattle.round.proofs.TurnSound.{again-sound}
 use Rattle.round.proofs.Waiting.{pass-stays}
 use Rattle.round.proofs.Closing.{closing-pass}
 use Rattle.round.proofs.Lawful.{turn-laws}

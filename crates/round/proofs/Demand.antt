@@ -26,7 +26,7 @@ use Rattle.round.specs.Tells.{RoundTells}
 use Rattle.round.specs.Demand.{Demand3}
 use Rattle.round.proofs.Given.{too-many}
 use Rattle.round.proofs.Telling.{round-told-only, answer-verdict, accepted-played}
-use Rattle.round.proofs.Starting.{listed-below, at-start-sound, among-listed}
+use Rattle.round.proofs.StartSound.{listed-below, at-start-sound, among-listed}
 use Rattle.round.proofs.Passes.{FairRound, fair-round}
 use Rattle.round.proofs.TurnLaws.{isGoing}
 use Rattle.round.proofs.Lawful.{turn-laws}

@@ -33,7 +33,7 @@ use Rattle.round.proofs.Sums.{own-sum, none-sum, alone-sum, kept-sum}
 use Rattle.round.proofs.Histories.{none-of-all, many-append, none-told}
 use Rattle.round.proofs.After.{back, round-along}
 use Rattle.round.proofs.Sound.{Sound}
-use Rattle.round.proofs.Starting.{listed-distinct, among-listed, listed-stage}
+use Rattle.round.proofs.StartSound.{listed-distinct, among-listed, listed-stage}
 use Rattle.round.proofs.Coming.{turn-untouched}
 use Rattle.round.proofs.AfterTurn.{going-parts, turn-by, routine-after}
 use Rattle.round.proofs.Outcomes.{turn-shape}

@@ -30,7 +30,7 @@ use Rattle.round.proofs.Sound.{Sound}
 use Rattle.round.proofs.TurnLaws.{isGoing, moves}
 use Rattle.round.proofs.Sums.{over-le, kept-sum}
 use Rattle.round.proofs.Actions.{staying-short, at-start-entries}
-use Rattle.round.proofs.Starting.{at-start-sound, listed-distinct, listed-below}
+use Rattle.round.proofs.StartSound.{at-start-sound, listed-distinct, listed-below}
 use Rattle.round.proofs.Lasting.{routine-in-time, left-most}
 use Rattle.round.proofs.Paying.{worth, leftOf, turn-pays, mayEnd, ends-pay}
 use Rattle.round.proofs.PayingPasses.{total, pass-pays}

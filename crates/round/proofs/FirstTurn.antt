@@ -25,13 +25,13 @@ use Rattle.round.proofs.TurnLaws.{isGoing, waits-at}
 use Rattle.round.proofs.Among.{somewhere-append, in-first, in-second}
 use Rattle.round.proofs.After.{back, own-and-others}
 use Rattle.round.proofs.Sound.{Sound}
-use Rattle.round.proofs.Starting.{among-listed, listed-stage}
+use Rattle.round.proofs.StartSound.{among-listed, listed-stage}
 use Rattle.round.proofs.Standings.{SameStanding, same-standing, StillThere}
 use Rattle.round.proofs.Again.{misses-again, goes-past}
 use Rattle.round.proofs.Closing.{there-again}
 use Rattle.round.proofs.CatchingUp.{never-missing}
 use Rattle.round.proofs.Demand.{none-going, demand-3}
-use Rattle.round.proofs.Tried.{came, lacked}
+use Rattle.round.proofs.TrueHistory.{came, lacked}
 
 -- routine r completes the step at place p
 abbrev pub Completes : ℕ → ℕ → List Happening → Type 0

@@ -1,12 +1,12 @@
 -- Turns of the routines of an accepted book have the laws that the theory of passes asks of them, in every state that a round keeps sound.
--- Soundness stays (Staying.antt); what a turn does, how it comes out and what a try again does are gathered here, each from its own file.
+-- Soundness stays (TurnSound.antt); what a turn does, how it comes out and what a try again does are gathered here, each from its own file.
 use Prim.Native.Nat.{ℕ, _<_}
 use mathlib.Core.List.{List}
 use Rattle.layout.specs.Layout.{routinesOf}
 use Rattle.book.specs.Accepted.{Accepted}
 use Rattle.round.proofs.Sound.{Sound}
 use Rattle.round.proofs.TurnLaws.{TurnLaws}
-use Rattle.round.proofs.Staying.{turn-sound, again-sound}
+use Rattle.round.proofs.TurnSound.{turn-sound, again-sound}
 use Rattle.round.proofs.Turned.{turn-turned}
 use Rattle.round.proofs.AfterTurn.{turn-over}
 use Rattle.round.proofs.Outcomes.{turn-out, turn-continues, turn-calm}

@@ -27,14 +27,14 @@ pub mod Entries
 pub mod Actions
 pub mod Listing
 pub mod Sound
-pub mod Starting
+pub mod StartSound
 -- what steps and turns keep and bring
 pub mod Standings
 pub mod Effects
-pub mod Fitting
+pub mod EffectSound
 pub mod AfterTurn
 pub mod Coming
-pub mod Staying
+pub mod TurnSound
 pub mod Outcomes
 pub mod Turned
 pub mod Again
@@ -63,8 +63,8 @@ pub mod Demand
 pub mod Ends
 pub mod Misses
 pub mod Asked
-pub mod Trying
-pub mod Tried
+pub mod TrueInOrder
+pub mod TrueHistory
 pub mod Replays
 pub mod FirstTurn
 pub mod Untold

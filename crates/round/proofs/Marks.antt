@@ -17,7 +17,7 @@ use Rattle.kinds.proofs.Rows.{row-kind}
 use Rattle.layout.specs.Layout.{stepsOf, countsOf}
 use Rattle.book.specs.Book.{stepsPart}
 use Rattle.book.specs.Accepted.{Accepted}
-use Rattle.book.proofs.Laws.{step-kind}
+use Rattle.book.proofs.Routines.{step-kind}
 use Rattle.round.specs.Answers.{opMark, markSteps}
 use Rattle.round.proofs.Counting.{Counted, counted}
 use Rattle.round.proofs.Forms.{step-op}

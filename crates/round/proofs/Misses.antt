@@ -18,7 +18,7 @@ use Rattle.round.specs.Rounds.{took, Played, followedBy, mostPasses, lis
 use Rattle.round.specs.Whole.{isMiss, lacksThing}
 use Rattle.round.proofs.Acts.{Stops, ends, rests, misses, continues}
 use Rattle.round.proofs.Along.{instant-by}
-use Rattle.round.proofs.Starting.{listed-below, at-start-sound}
+use Rattle.round.proofs.StartSound.{listed-below, at-start-sound}
 use Rattle.round.proofs.Histories.{many-append}
 use Rattle.round.proofs.AfterTurn.{turn-by}
 use Rattle.round.proofs.Outcomes.{turn-shape}

@@ -15,7 +15,7 @@ use Rattle.round.specs.Rounds.{listedIn, historyOf}
 use Rattle.round.specs.Answers.{opMark, marksIn}
 use Rattle.round.specs.Demand.{isSignalStep, givesSignal}
 use Rattle.round.specs.Completed.{completes, theStep, isMarkStep, isAddition, CompletedOnce}
-use Rattle.round.proofs.Starting.{listed-distinct, listed-below, at-start-sound}
+use Rattle.round.proofs.StartSound.{listed-distinct, listed-below, at-start-sound}
 use Rattle.round.proofs.Paying.{leftOf, turn-pays}
 use Rattle.round.proofs.PayingPasses.{round-pays}
 use Rattle.round.proofs.Accounts.{numbers-few, signals-completed, marks-completed}

@@ -8,7 +8,7 @@ use Rattle.blocks.specs.Parse.{ParsedBlock, WhilesPause}
 use Rattle.layout.specs.Layout.{routinesOf, countsOf}
 use Rattle.directory.specs.Directory.{stepCount, routineSteps}
 use Rattle.book.specs.Accepted.{Accepted}
-use Rattle.book.proofs.Laws.{PausingParse, routine-steps, pausing-parse}
+use Rattle.book.proofs.Routines.{PausingParse, routine-steps, pausing-parse}
 use Rattle.round.specs.Jumps.{sizeOf}
 use Rattle.round.proofs.Leads.{formAt}
 

@@ -21,7 +21,7 @@ use Rattle.round.proofs.Histories.{many-append}
 use Rattle.round.proofs.Among.{All, all-among}
 use Rattle.round.proofs.Along.{pass-along}
 use Rattle.round.proofs.Sound.{Sound}
-use Rattle.round.proofs.Staying.{turn-sound}
+use Rattle.round.proofs.TurnSound.{turn-sound}
 use Rattle.round.proofs.After.{back, round-along}
 use Rattle.round.proofs.Paying.{worth, turn-spares}
 

@@ -18,7 +18,7 @@ use Rattle.kinds.proofs.Readable.{kind-not-refused}
 use Rattle.layout.specs.Layout.{routinesOf, countsOf}
 use Rattle.directory.specs.Directory.{stepCount, routineSteps}
 use Rattle.book.specs.Accepted.{Accepted}
-use Rattle.book.proofs.Laws.{shown-routine, shown-kind}
+use Rattle.book.proofs.Routines.{shown-routine, shown-kind}
 use Rattle.round.specs.declared.Ending.{Ending}
 use Rattle.round.specs.declared.Ending.the-variants.{Ended, Rested, Missed, Continued}
 use Rattle.round.specs.declared.Position.{Position}
@@ -36,7 +36,7 @@ use Rattle.round.proofs.Among.{in-second as later}
 use Rattle.round.proofs.Histories.{none-of-all}
 use Rattle.round.proofs.Stepping.{ticks-by}
 use Rattle.round.proofs.Parsed.{size-same}
-use Rattle.round.proofs.Staying.{leaves-inside}
+use Rattle.round.proofs.TurnSound.{leaves-inside}
 use Rattle.round.proofs.Untold.{Untold}
 use Rattle.round.proofs.Replays.{contentsOf, Makes, makes-same, makes-both, goes-agrees, HaltsAt, halts-agrees}
 

@@ -27,7 +27,7 @@ use Rattle.round.proofs.Histories.{none-of-both, says-none, stops-none}
 use Rattle.round.proofs.Standings.{SameStanding, same-standing, standing-then}
 use Rattle.round.proofs.AfterTurn.{going-parts, turn-by, turn-over}
 use Rattle.round.proofs.Actions.{at-start-positions}
-use Rattle.round.proofs.Starting.{at-start-sound, listed-among}
+use Rattle.round.proofs.StartSound.{at-start-sound, listed-among}
 use Rattle.round.proofs.After.{back, own-and-others}
 
 -- nothing that is told is of routine r

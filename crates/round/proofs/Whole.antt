@@ -9,7 +9,7 @@ use Rattle.round.proofs.Accounts.{signals-completed, marks-completed}
 use Rattle.round.proofs.Ends.{ends-counted, ended-as-told}
 use Rattle.round.proofs.Misses.{misses-told}
 use Rattle.round.proofs.Asked.{asked, completed-by-finding}
-use Rattle.round.proofs.Tried.{comes, came, found, lacked}
+use Rattle.round.proofs.TrueHistory.{comes, came, found, lacked}
 use Rattle.round.proofs.Replays.{contents-made}
 use Rattle.round.proofs.Untold.{untold}
 use Rattle.round.proofs.Ways.{stood, left-at}

@@ -28,14 +28,14 @@ use Rattle.round.specs.Rounds.{Ticks, mostTicks, afterTurn, took, Played, notTa
 use Rattle.round.specs.Answers.{marksIn}
 use Rattle.round.specs.Enough.{RoundEnds}
 use Rattle.round.proofs.Among.{All}
-use Rattle.round.proofs.Starting.{listed-below}
+use Rattle.round.proofs.StartSound.{listed-below}
 use Rattle.round.proofs.Sound.{Sound}
 use Rattle.round.proofs.TurnLaws.{isGoing}
 use Rattle.round.proofs.Parsed.{size-same}
 use Rattle.round.proofs.Lasting.{routine-in-time}
 use Rattle.round.proofs.Coming.{turn-untouched}
 use Rattle.round.proofs.AfterTurn.{going-parts, after-few, position-after, turn-by, turn-taken}
-use Rattle.round.proofs.Staying.{turn-sound, again-sound}
+use Rattle.round.proofs.TurnSound.{turn-sound, again-sound}
 use Rattle.round.proofs.Turned.{turn-turned}
 use Rattle.round.proofs.After.{pass-keeps, instant-keeps}
 use Rattle.round.proofs.Waiting.{done-append}

@@ -11,7 +11,7 @@ use Rattle.round.specs.Actions.{atStart}
 use Rattle.round.specs.Rounds.{mostPasses, round}
 use Rattle.round.specs.Answers.{marksIn}
 use Rattle.round.proofs.Actions.{at-start-positions}
-use Rattle.round.proofs.Starting.{at-start-sound}
+use Rattle.round.proofs.StartSound.{at-start-sound}
 use Rattle.round.proofs.Enough.{enough}
 use Rattle.round.proofs.After.{round-fits}
 use Rattle.round.proofs.Demand.{none-lost}

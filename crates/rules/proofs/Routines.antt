@@ -10,7 +10,7 @@ use Rattle.blocks.specs.Parse.{ParsedBlock}
 use Rattle.layout.specs.Layout.{routinesOf, countsOf}
 use Rattle.directory.specs.Directory.{routineSteps}
 use Rattle.book.specs.Accepted.{Accepted}
-use Rattle.book.proofs.Laws.{own-places}
+use Rattle.book.proofs.Routines.{own-places}
 use Rattle.round.specs.declared.Ending.{Ending}
 use Rattle.round.specs.declared.Position.{Position}
 use Rattle.round.specs.State.{State}

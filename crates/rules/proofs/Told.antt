@@ -18,7 +18,7 @@ use Rattle.round.specs.Enough.{InTime}
 use Rattle.round.proofs.Acts.{Stops, ends, rests, misses, continues}
 use Rattle.round.proofs.Stepping.{ticks-in-time}
 use Rattle.round.proofs.Sound.{Sound}
-use Rattle.round.proofs.Fitting.{effect-sound}
+use Rattle.round.proofs.EffectSound.{effect-sound}
 use Rattle.round.proofs.Coming.{goes-carries}
 use Rattle.rules.proofs.Walks.{Marks, HasRoom, Ends, halts, goes}
 

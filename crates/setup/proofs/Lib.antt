@@ -1,2 +1,2 @@
-pub mod Games
+pub mod Answers
 pub mod SetUp

@@ -4,7 +4,7 @@ use mathlib.Core.Path.{sym, ap, _∙_}
 use borrow.Author.Needs.{needs}
 use borrow.Author.Tests.{eq-eqb, ne-eqb}
 use Rattle.orders.specs.Orders.{ordered}
-use Rattle.setup.proofs.Games.{promised}
+use Rattle.setup.proofs.Answers.{promised}
 use Rattle.orders.proofs.After.{order-fits}
 use Rattle.orders.proofs.Counts.{nameable}
 use Rattle.ordering.proofs.order.Statement.{statement}

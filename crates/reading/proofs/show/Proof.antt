@@ -12,7 +12,7 @@ use Rattle.layout.specs.Layout.{routinesOf}
 use Rattle.book.specs.Book.{bookVerdict, isShown}
 use Rattle.verdicts.proofs.Answers.{refuses}
 use Rattle.directory.proofs.Directory.{routine-start, begins-there}
-use Rattle.book.proofs.Laws.{none-shown, shown-routine, shown-from}
+use Rattle.book.proofs.Routines.{none-shown, shown-routine, shown-from}
 use Rattle.book.proofs.Telling.{number-accepted}
 use Rattle.reading.proofs.show.Statement.{statement}
 use Rattle.reading.proofs.show.Tie as tie

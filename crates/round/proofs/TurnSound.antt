@@ -29,7 +29,7 @@ use Rattle.round.proofs.Parsed.{size-same, parse-of, parse-pauses}
 use Rattle.round.proofs.Sound.{Sound}
 use Rattle.round.proofs.Coming.{turn-untouched}
 use Rattle.round.proofs.AfterTurn.{going-parts, end-keeps, turn-by}
-use Rattle.round.proofs.Fitting.{game-sound, effect-sound}
+use Rattle.round.proofs.EffectSound.{game-sound, effect-sound}
 
 -- the stages in which a turn leaves its routine
 stage-after : (h : Ending) → (continuing ≤ stageAfter h) × (stageAfter h ≤ ended)

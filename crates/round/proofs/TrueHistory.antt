@@ -21,7 +21,7 @@ use Rattle.round.proofs.Turned.{turn-turned}
 use Rattle.numbers.proofs.Tests.{clash}
 use Rattle.round.proofs.Closing.{there-again}
 use Rattle.round.proofs.Demand.{none-lost}
-use Rattle.round.proofs.Trying.{InOrder, order-at, There, Becomes, becomes-same, becomes-both, becomes-by, turn-order}
+use Rattle.round.proofs.TrueInOrder.{InOrder, order-at, There, Becomes, becomes-same, becomes-both, becomes-by, turn-order}
 
 module _ (book : List ℕ) (a : Accepted book) where
   turn-becomes :

@@ -25,7 +25,7 @@ use Rattle.round.proofs.Stepping.{ticks-by}
 use Rattle.round.proofs.Sound.{Sound}
 use Rattle.round.proofs.Standings.{StillThere}
 use Rattle.round.proofs.Coming.{goes-carries, all-brought}
-use Rattle.round.proofs.Fitting.{effect-sound}
+use Rattle.round.proofs.EffectSound.{effect-sound}
 use Rattle.round.proofs.AfterTurn.{after-few, turn-by}
 
 -- what a try says of the things that are known before it
