@@ -141,7 +141,9 @@ module _ (book : List ℕ) (r : ℕ) where
     behind-last : (p : ℕ) → stepAt (countsOf book) steps p ≡ step.Refused → p ≤ sizeOf steps → p ≡ stepCount book r
     behind-last p none inside =
         elim (decLt p (stepCount book r)) [
-          | yes l ↦ let (k, e) = rw (shown-routine book a r below) at (shown-kind book a r below p l) in absurd (kind-not-refused (sym e ∙ none))
+          | yes l ↦
+              let (k, e) = rw (shown-routine book a r below) at (shown-kind book a r below p l) in
+              absurd (kind-not-refused (sym e ∙ none))
           | no n ↦ omega (arith, size-same book a r below)
         ]
 
@@ -149,7 +151,8 @@ module _ (book : List ℕ) (r : ℕ) where
         (x : Position) (s : State) {how : Ending} {y : Position} {told : List Happening} →
         tick (countsOf book) r steps x s ≡ telling (Halts how y) told → Stops (countsOf book) r steps x s how y told →
         x .place ≤ sizeOf steps → Halted told (x .place) how y
-    halted x s {how} {y} {told} same stops inside = by (stepAt (countsOf book) steps (x .place)) refl stops (halts-agrees book r x s same .0)
+    halted x s {how} {y} {told} same stops inside =
+        by (stepAt (countsOf book) steps (x .place)) refl stops (halts-agrees book r x s same .0)
       where
         stopped :
             (k : Kind) {h : Ending} {z : Position} {l : List Happening} → Stops (countsOf book) r steps x s h z l →
@@ -210,5 +213,6 @@ module _ (book : List ℕ) (r : ℕ) where
               let (all, to) = walked now (t .told) (contentsOf s) _ (x .place) q (first (makes few .0) .1) led one others in
               (all, rw to (halted-later now (t .told) _ (t .ending) (t .position) stop)),
         ))
-        (λ x s how y told same stays stops. (halts-agrees book r x s same .1, λ few inside. stops-own x s stops (halted x s same stops inside)))
+        (λ x s how y told same stays stops.
+        (halts-agrees book r x s same .1, λ few inside. stops-own x s stops (halted x s same stops inside)))
         (λ x s. (makes-same book s, λ few inside. (tt, refl)))

@@ -32,10 +32,14 @@ returns : tie.Need-returns
 returns c = rw (empty _ (c .if1 .taken))
 
 -- behind a minus, and without one, the word says what the digits say
-behind-minus : (c : tie.After-decimal) → signedOf (c .before .before .before .before .before .before .args .word .now) ≡ below (c .decimal .result)
+behind-minus :
+    (c : tie.After-decimal) →
+    signedOf (c .before .before .before .before .before .before .args .word .now) ≡ below (c .decimal .result)
 behind-minus c = with-minus _ _ (c .before .before .if2 .taken) (c .decimal .ensures)
 
-no-minus : (c : tie.After-decimal2) → signedOf (c .before .before .before .before .before .args .word .now) ≡ above (c .decimal2 .result)
+no-minus :
+    (c : tie.After-decimal2) →
+    signedOf (c .before .before .before .before .before .args .word .now) ≡ above (c .decimal2 .result)
 no-minus c = without _ _ (c .before .if2 .left) (c .decimal2 .ensures)
 
 returns-2 : tie.Need-returns-2

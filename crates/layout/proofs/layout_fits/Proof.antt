@@ -1,5 +1,5 @@
 -- `layout::layout_fits` meets its contract: an offset that is right drops out of the test, and the first that is not settles it.
--- `past-offset` says what is left of the contract's test behind the directory's offset.
+-- `past-offset` and `past-offsets` say what is left of the contract's test behind the directory's offset and behind both.
 use Prim.Native.Nat.{_+_, _*_}
 use mathlib.Core.Path.{_≡_}
 use mathlib.Core.Bool.{_&&_}
@@ -26,6 +26,13 @@ past-offset c =
       ← (c .before .steps-from .ensures .0),
     )
 
+-- past both offsets, the length alone decides
+past-offsets :
+    (c : tie.After-steps) →
+    let s = c .before .before .before .before .before .before .before .args .book .now in
+    layoutFits s ≡ eqb (length s) (c .before .before .before .steps-from .result + stepBytes * c .steps .result)
+past-offsets c = rw (past-offset (c .before .before), eq-eqb _ _ (c .before .if2 .left), ← (c .steps .ensures .0))
+
 pub layout-fits-spec : {M : Type 1} → statement M
 layout-fits-spec =
     tie.close
@@ -38,5 +45,5 @@ layout-fits-spec =
     (λ c κs. search needs)
     (λ c. search needs)
     (λ c. search needs)
-    (λ c. rw (past-offset (c .before .before .before), eq-eqb _ _ (c .before .before .if2 .left), ← (c .before .steps .ensures .0), ne-eqb _ _ (c .if3 .taken)))
-    (λ c. rw (past-offset (c .before .before .before), eq-eqb _ _ (c .before .before .if2 .left), ← (c .before .steps .ensures .0), eq-eqb _ _ (c .if3 .left))))
+    (λ c. rw (past-offsets (c .before), ne-eqb _ _ (c .if3 .taken)))
+    (λ c. rw (past-offsets (c .before), eq-eqb _ _ (c .if3 .left))))

@@ -16,7 +16,9 @@ use Rattle.readers.proofs.+read_block+read_else+read_if+read_step+read_
 use Rattle.readers.proofs.closed_at.Reads as closed-at
 use Rattle.readers.proofs.+read_block+read_else+read_if+read_step+read_while.{statement}
 use Rattle.readers.proofs.+read_block+read_else+read_if+read_step+read_while.Tie.{close}
-use Rattle.readers.proofs.+read_block+read_else+read_if+read_step+read_while.Proof.Measures.{μ-block, μ-else, μ-if, μ-step, μ-while, block-below, if-below, step-pre, while-pre, while-below}
+use Rattle.readers.proofs.+read_block+read_else+read_if+read_step+read_while.Proof.Measures.{μ-block, μ-else, μ-if, μ-step, μ-while}
+use Rattle.readers.proofs.+read_block+read_else+read_if+read_step+read_while.Proof.Measures.{block-below, if-below, step-pre, while-pre}
+use Rattle.readers.proofs.+read_block+read_else+read_if+read_step+read_while.Proof.Measures.{while-below}
 use Rattle.readers.proofs.+read_block+read_else+read_if+read_step+read_while.Proof.Block.{block-spec}
 use Rattle.readers.proofs.+read_block+read_else+read_if+read_step+read_while.Proof.If.{else-spec, if-spec}
 

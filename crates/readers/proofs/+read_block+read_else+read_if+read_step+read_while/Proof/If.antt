@@ -17,7 +17,8 @@ use Rattle.readers.proofs.lower.Reads as lower
 use Rattle.forms.proofs.form_of.Reads as form-of
 use Rattle.readers.proofs.is_else.Reads as is-else
 use Rattle.kinds.proofs.step_at.Reads as step-at
-use Rattle.readers.proofs.+read_block+read_else+read_if+read_step+read_while.Proof.Measures.{block-below, else-pre, else-below, if-pre}
+use Rattle.readers.proofs.+read_block+read_else+read_if+read_step+read_while.Proof.Measures.{block-below, else-pre}
+use Rattle.readers.proofs.+read_block+read_else+read_if+read_step+read_while.Proof.Measures.{else-below, if-pre}
 
 module _ (t : ℕ) where
   abbrev pub else-callees : else-lts.Claims
