@@ -1,9 +1,8 @@
--- The game after a round fits the book; the round has kept its playing order, and suspended nobody and resumed nobody, and once a number
--- was too many, that stays noted. The state behind the eight actions is sound, and turns keep it so; hence what holds of each turn in a
--- sound state holds of a round.
+-- The game after a round fits the book; the round has kept its playing order, and suspended nobody and resumed nobody. The state behind the
+-- eight actions is sound, and turns keep it so; hence what holds of each turn in a sound state holds of a round.
 use Prim.Native.Nat.{ℕ, _<_}
 use mathlib.Core.Path.{_≡_, refl, _∙_, subst}
-use mathlib.Core.Bool.{Bool, false}
+use mathlib.Core.Bool.{Bool}
 use mathlib.Core.List.{List, [], _++_}
 use mathlib.Core.Logic.{_≢_}
 use native.Mathlib.Decide.{ℕ-discrete}
@@ -36,7 +35,6 @@ back book g = round book g .played .state
 pub record Kept (s u : State) : Type 0 where
   pub listed : u .game .listed ≡ s .game .listed
   pub suspended : (r : ℕ) → routineAt (u .game) r .suspended ≡ routineAt (s .game) r .suspended
-  pub few : u .tooMany ≡ false → s .tooMany ≡ false
 
 module _ (book : List ℕ) (a : Accepted book) where
   abbrev Keeps : State → List Happening → State → Type 0
@@ -44,20 +42,19 @@ module _ (book : List ℕ) (a : Accepted book) where
 
   -- other flags, or the same
   flags-keep : (s : State) {moved eoi : Bool} → Kept s (withMoves s moved eoi)
-  flags-keep s = record { listed = refl; suspended = λ r. refl; few = λ h. h }
+  flags-keep s = record { listed = refl; suspended = λ r. refl }
 
   keeps-both : (s u v : State) (b c : List Happening) → Keeps s b u → Keeps u c v → Keeps s [] v
   keeps-both s u v b c one two =
       record {
         listed = two .listed ∙ one .listed;
         suspended = λ r. two .suspended r ∙ one .suspended r;
-        few = λ h. one .few (two .few h);
       }
 
   turn-keeps : (r : ℕ) (s : State) → r < routinesOf book → Sound book s → Kept s (turn book r s .state)
   turn-keeps r s l ok =
       let t = turn-turned book a r s l ok in
-      record { listed = t .standings .listed; suspended = t .standings .suspended; few = t .flags .few }
+      record { listed = t .standings .listed; suspended = t .standings .suspended }
 
   pub pass-keeps :
       (rs : List ℕ) → All (λ r. r < routinesOf book) rs → (s : State) → Sound book s →

@@ -12,14 +12,15 @@ use lib.ListN.{length, List·getD-eq-default}
 use lib.Seq.{getD-set-same}
 use Rattle.numbers.proofs.Tests.{clash, by-test}
 use Rattle.game.specs.declared.Routine.{Routine}
-use Rattle.game.specs.Game.{continuing, ended, blank, routineAt, withRoutine}
+use Rattle.game.specs.Game.{continuing, blank, routineAt, withRoutine}
 use Rattle.orders.proofs.Stores.{same-set}
 use Rattle.round.specs.declared.Ending.{Ending}
 use Rattle.round.specs.declared.Ending.the-variants.{Ended, Rested, Missed, Continued}
 use Rattle.round.specs.declared.Position.{Position}
-use Rattle.round.specs.State.{State, withGame, Thing, signal, end, number, isThere}
+use Rattle.round.specs.State.{State, withGame, Thing, signal, end, number, hasEnded, isThere}
 use Rattle.round.specs.Actions.{positionOf, placed}
-use Rattle.round.specs.Rounds.{Ticks, stageAfter, withEnd, afterTurn, took, Played, notTaken, taken, isDone, ticksOf, turn}
+use Rattle.round.specs.Rounds.{Ticks, stageAfter, withEnd, behindTurn, afterTurn, took, Played, notTaken, taken, isDone}
+use Rattle.round.specs.Rounds.{ticksOf, turn}
 use Rattle.round.proofs.Effects.{same-end}
 use Rattle.round.proofs.Standings.{SameStanding}
 use Rattle.round.proofs.TurnLaws.{isGoing}
@@ -44,10 +45,6 @@ end-keeps P Rested r s over h = h
 end-keeps P Missed r s over h = h
 end-keeps P Continued r s over h = h
 
--- a number too many is noted by the steps alone
-pub after-few : (r : ℕ) (t : Ticks) → afterTurn r t .tooMany ≡ false → t .state .tooMany ≡ false
-after-few r t = end-keeps (λ u. u .tooMany ≡ false → t .state .tooMany ≡ false) (t .ending) r _ (λ h. h) (λ h. h)
-
 -- rules 33 and 34
 module _ (book : List ℕ) (r : ℕ) (s : State) where
   pub turn-by :
@@ -64,15 +61,18 @@ module _ (book : List ℕ) (r : ℕ) (s : State) where
   pub turn-taken : isGoing s r ≡ true → turn book r s ≡ taken r (ticksOf book r s)
   turn-taken h = turn-by (λ p. p ≡ taken r (ticksOf book r s)) (λ g. clash h g) (λ g. refl)
 
--- the same things are there where routine r stands elsewhere, and has ended if it had
-pub placed-there :
-    (s : State) (r stage : ℕ) (y : Position) → eqb stage ended ≡ eqb (routineAt (s .game) r .stage) ended → (t : Thing) →
-    isThere (withGame s (withRoutine (s .game) r (placed (routineAt (s .game) r) stage y))) t ≡ isThere s t
+-- the same things are there with routine r as a turn leaves it, if it has ended as it had
+pub there-behind :
+    (s : State) (r : ℕ) (how : Ending) (y : Position) → hasEnded (stageAfter how) ≡ hasEnded (routineAt (s .game) r .stage) → (t : Thing) →
+    isThere (withGame s (withRoutine (s .game) r (behindTurn (routineAt (s .game) r) how y))) t ≡ isThere s t
 unfolding isThere
-placed-there s r stage y same (signal e) = refl
-placed-there s r stage y same (end q) =
-    same-end s _ q (same-set (λ x. eqb (x .stage) ended) (s .game .routines) r _ blank same q) refl
-placed-there s r stage y same (number e k) = refl
+there-behind s r how y same (signal e) = refl
+there-behind s r how y same (end q) = same-end s _ q (same-set (λ x. hasEnded (x .stage)) (s .game .routines) r _ blank same q) refl
+there-behind s r how y same (number e k) = refl
+
+-- a routine to be continued where it stands is as it was
+pub behind-same : (x : Routine) → x .stage ≡ continuing → behindTurn x Continued (positionOf x) ≡ x
+behind-same x e = ap (λ k. placed x k (positionOf x)) (sym e)
 
 -- behind a turn of routine r with these steps, which leave it standing as it did
 module _
@@ -93,9 +93,9 @@ module _
           absurd (omega (arith, ap (λ (x : Routine). x .stage) out, standing-going .1))
     ]
 
-    pub routine-after : routineAt (afterTurn r t .game) r ≡ placed (routineAt (t .state .game) r) (stageAfter (t .ending)) (t .position)
+    pub routine-after : routineAt (afterTurn r t .game) r ≡ behindTurn (routineAt (t .state .game) r) (t .ending) (t .position)
     routine-after =
-        let x = placed (routineAt (t .state .game) r) (stageAfter (t .ending)) (t .position) in
+        let x = behindTurn (routineAt (t .state .game) r) (t .ending) (t .position) in
         end-keeps (λ u. routineAt (u .game) r ≡ x) (t .ending) r _ (λ h. h)
         (getD-set-same (t .state .game .routines) r x blank kept-there)
 
@@ -110,5 +110,5 @@ module _
     -- what is missing behind the steps is missing behind a turn that is to be continued
     pub after-missing : t .ending ≡ Continued → (thing : Thing) → isThere (t .state) thing ≡ false → isThere (afterTurn r t) thing ≡ false
     after-missing e thing h =
-        let same = placed-there (t .state) r continuing (t .position) (ap (λ n. eqb n ended) (sym (standing-going .1))) thing in
+        let same = there-behind (t .state) r Continued (t .position) (ap hasEnded (sym (standing-going .1))) thing in
         rw e (same ∙ h)

@@ -20,7 +20,7 @@ use Rattle.round.specs.declared.Ending.the-variants.{Missed, Continued}
 use Rattle.round.specs.declared.Position.{Position}
 use Rattle.round.specs.declared.Act.the-variants.{Halts}
 use Rattle.round.specs.State.{State, withGame, Thing, Happening, missing, past, completed, isThere}
-use Rattle.round.specs.Actions.{positionOf, placed}
+use Rattle.round.specs.Actions.{positionOf}
 use Rattle.round.specs.Jumps.{sizeOf}
 use Rattle.round.specs.Ticks.{Tick, tick, fresh}
 use Rattle.round.specs.Rounds.{Ticks, follow, ticks, afterTurn, took, Played, taken, isDone, ticksOf, turn}
@@ -28,7 +28,7 @@ use Rattle.round.specs.Demand.{IsPast}
 use Rattle.round.specs.Again.{TriesAgain}
 use Rattle.round.proofs.TurnLaws.{isGoing, Waits, waits-too}
 use Rattle.round.proofs.Asking.{asked-there, asked-missing}
-use Rattle.round.proofs.AfterTurn.{going-parts, turn-over, turn-taken}
+use Rattle.round.proofs.AfterTurn.{going-parts, turn-over, turn-taken, behind-same}
 use Rattle.round.proofs.Outcomes.{turn-out, turn-continues}
 
 -- the first step of a turn settles it, or the others follow
@@ -80,8 +80,8 @@ module _ (book : List ℕ) where
     same-state : afterTurn r (halted Continued here) ≡ s
     same-state =
         let x = routineAt (s .game) r in
-        subst (λ n. withGame s (withRoutine (s .game) r (placed x n here)) ≡ s) (going-parts (x .suspended) (x .stage) going .1)
-        (ap (λ (l : List Routine). withGame s (withRoutines (s .game) l)) (set-getD (s .game .routines) r blank))
+        ap (λ (y : Routine). withGame s (withRoutine (s .game) r y)) (behind-same x (going-parts (x .suspended) (x .stage) going .1))
+        ∙ ap (λ (l : List Routine). withGame s (withRoutines (s .game) l)) (set-getD (s .game .routines) r blank)
 
     pub turn-unchanged :
         isThere s t ≡ false → s .eoi ≡ false →

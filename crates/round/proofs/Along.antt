@@ -61,10 +61,22 @@ module _
             (last, both _ _ _ [] _ (agains s) two))
 
     -- what holds of every turn, whichever routines are listed
-    pub round-always :
-        ((r : ℕ) (s : State) → Claim s (turn book r s .told) (turn book r s .state)) → ((s : State) → Claim s [] (again s)) →
-        (g : Game) → Claim (atStart g) (historyOf book g) (round book g .played .state)
-    unfolding round
-    round-always turns agains g =
-        instant-along (λ s. Unit {0}) (λ r. Unit {0}) (λ r s l ok. tt) (λ r s l ok. turns r s) (λ s ok. tt) agains mostPasses (listedIn g)
-        (each-among (λ r. Unit {0}) (listedIn g) (λ r h. tt)) (atStart g) tt .1
+    module _ (turns : (r : ℕ) (s : State) → Claim s (turn book r s .told) (turn book r s .state)) where
+      any-listed : (rs : List ℕ) → All (λ r. Unit {0}) rs
+      any-listed rs = each-among (λ r. Unit {0}) rs (λ r h. tt)
+
+      pub pass-always : (rs : List ℕ) (s : State) → Claim s (pass book rs s .told) (pass book rs s .state)
+      pass-always rs s =
+          pass-along (λ s. Unit {0}) (λ r. Unit {0}) (λ r s l ok. tt) (λ r s l ok. turns r s) rs (any-listed rs) s tt .1
+
+      pub instant-always :
+          ((s : State) → Claim s [] (again s)) → (n : ℕ) (rs : List ℕ) (s : State) →
+          Claim s (instant book n rs s .played .told) (instant book n rs s .played .state)
+      instant-always agains n rs s =
+          instant-along (λ s. Unit {0}) (λ r. Unit {0}) (λ r s l ok. tt) (λ r s l ok. turns r s) (λ s ok. tt) agains n rs
+          (any-listed rs) s tt .1
+
+      pub round-always :
+          ((s : State) → Claim s [] (again s)) → (g : Game) → Claim (atStart g) (historyOf book g) (round book g .played .state)
+      unfolding round
+      round-always agains g = instant-always agains mostPasses (listedIn g) (atStart g)

@@ -58,14 +58,16 @@ module _ (book : List ℕ) (a : Accepted book) where
         let whole = over-below (λ r. countBelow (inRoutine r) (stepCount book r)) (routinesOf book) L d all in
         rw (← a .directed .total) (omega (arith, first-routines (routinesOf book) (omega arith)))
 
-  pub few-steps :
-      (set : ℕ → ℕ → Bool) (L : List ℕ) → Distinct L → All (λ r. r < routinesOf book) L → stepsIn book set L ≤ mostSteps
-  unfolding stepsBefore
-  few-steps set L d all =
-      omega (
-        arith,
-        over-le _ (λ r. stepCount book r) L (λ r h. count-all (set r) (stepCount book r)),
-        over-below (λ r. stepCount book r) (routinesOf book) L d all,
-        a .directed .total,
-        a .laid .counts .fewSteps,
-      )
+  module _ (set : ℕ → ℕ → Bool) (L : List ℕ) (distinct : Distinct L) (below : All (λ r. r < routinesOf book) L) where
+    pub all-in-book : stepsIn book set L ≤ stepsOf book
+    unfolding stepsBefore
+    all-in-book =
+        omega (
+          arith,
+          over-le _ (λ r. stepCount book r) L (λ r h. count-all (set r) (stepCount book r)),
+          over-below (λ r. stepCount book r) (routinesOf book) L distinct below,
+          a .directed .total,
+        )
+
+    pub few-steps : stepsIn book set L ≤ mostSteps
+    few-steps = omega (arith, all-in-book, a .laid .counts .fewSteps)

@@ -16,7 +16,6 @@ use Rattle.round.specs.Whole.{isMiss}
 use Rattle.round.proofs.Among.{All, somewhere-append}
 use Rattle.round.proofs.TurnLaws.{isGoing, moves, Turned, others-going, Waits, waits-too, ToBeContinued, TurnLaws}
 use Rattle.round.proofs.Histories.{moves-append, EachWith, each-at, nothing-comes}
-use Rattle.round.proofs.Waiting.{passed}
 use Rattle.round.proofs.Closing.{there-again, waits-again}
 
 -- a missing thing does not come by being missing
@@ -105,10 +104,10 @@ module _ {book : List ℕ} {Listed : ℕ → Type 0} {Ok : State → Type 0} (la
 
     -- for another, what is there stays, and what comes is there
     owed-other :
-        (q : ℕ) → q ≢ r → turn book r s .state .tooMany ≡ false → Owed book L (turn book r s .state) b → (p : ℕ) (t : Thing) →
+        (q : ℕ) → q ≢ r → Owed book L (turn book r s .state) b → (p : ℕ) (t : Thing) →
         Among q L → isGoing s q ≡ true → Waits book s q p t → (isThere s t ≡ true) ⊎ Somewhere (Comes t) (turn book r s .told ++ b) →
         IsPast q p t (turn book r s .told ++ b)
-    owed-other q n few f p t j g w c =
+    owed-other q n f p t j g w c =
         past-second (turn book r s .told)
         (f q p t j (others-going turned q n ∙ g) (waits-too book q p t s _ (turned .standings .others q n .position) w) (came c))
       where
@@ -120,15 +119,14 @@ module _ {book : List ℕ} {Listed : ℕ → Type 0} {Ok : State → Type 0} (la
             (isThere (turn book r s .state) t ≡ true) ⊎ Somewhere (Comes t) b
         came (inl h) = inl (turned .keeps t h)
         came (inr x) =
-            elim (somewhere-append (Comes t) (turn book r s .told) b x) [ inl y ↦ inl (turned .brings t few y) | inr y ↦ inr y ]
+            elim (somewhere-append (Comes t) (turn book r s .told) b x) [ inl y ↦ inl (turned .brings t y) | inr y ↦ inr y ]
 
     owed-turn :
-        s .eoi ≡ false → turn book r s .state .tooMany ≡ false → Owed book L (turn book r s .state) b →
-        Owed book L s (turn book r s .told ++ b)
-    owed-turn e few f q p t j g w c =
+        s .eoi ≡ false → Owed book L (turn book r s .state) b → Owed book L s (turn book r s .told ++ b)
+    owed-turn e f q p t j g w c =
         elim (ℕ-discrete q r) [
           | yes x ↦ rw x (owed-own e f p t (rw x at g) (rw x at w) c)
-          | no n ↦ owed-other q n few f p t j g w c
+          | no n ↦ owed-other q n f p t j g w c
         ]
 
     caught-turn :
@@ -153,17 +151,17 @@ module _ {book : List ℕ} {Listed : ℕ → Type 0} {Ok : State → Type 0} (la
   -- a pass before what is caught
   pub caught-pass :
       (l : List ℕ) → All Listed l → ((r : ℕ) → Among r l → Among r L) → (s : State) → Ok s → s .eoi ≡ false →
-      pass book l s .state .tooMany ≡ false → (b : List Happening) → Owed book L (pass book l s .state) b → Caught b →
+      (b : List Happening) → Owed book L (pass book l s .state) b → Caught b →
       Owed book L s (pass book l s .told ++ b) × Caught (pass book l s .told ++ b)
   unfolding pass
-  caught-pass [] a sub s k e few b f c = (f, c)
-  caught-pass (r ∷ l) a sub s k e few b f c =
+  caught-pass [] a sub s k e b f c = (f, c)
+  caught-pass (r ∷ l) a sub s k e b f c =
       let first = turn book r s in
       let ok = laws .stays r s (a .0) k in
       let rest = pass book l (first .state) .told in
-      let (g, d) = caught-pass l (a .1) (λ q i. sub q (inr i)) (first .state) ok (laws .turned r s (a .0) k .flags .eoi ∙ e) few b f c in
+      let (g, d) = caught-pass l (a .1) (λ q i. sub q (inr i)) (first .state) ok (laws .turned r s (a .0) k .flags .eoi ∙ e) b f c in
       let i = sub r (inl refl) in
       subst (λ (h : List Happening). Owed book L s h × Caught h) (sym (append-assoc (first .told) rest b)) (
-        owed-turn r s (a .0) k i (rest ++ b) e (passed laws l (a .1) (first .state) ok .few few) g,
+        owed-turn r s (a .0) k i (rest ++ b) e g,
         caught-turn r s (a .0) k i (rest ++ b) e g d,
       )

@@ -1,7 +1,7 @@
 -- What a turn's steps carry from one state to the next: what is there stays, what is told to be given is there, what is new has come, and
 -- the flag says whether a signal was given. It holds of each step, by what the step comes to, and of one after the other.
 use Prim.Native.Nat.{ℕ, _<_, _≤_}
-use mathlib.Core.Path.{_≡_, refl, sym, _∙_, ap}
+use mathlib.Core.Path.{_≡_, refl, _∙_, ap}
 use mathlib.Core.Bool.{true, false}
 use mathlib.Core.List.{List, [], _∷_, _++_}
 use mathlib.Core.Logic.{inl, inr}
@@ -34,20 +34,18 @@ pub record Carries (s : State) (told : List Happening) (u : State) : Type 0 wher
   pub present : length (u .present) ≡ length (s .present)
   pub keeps : StillThere s u
   pub brings :
-      length (s .present) ≡ mostSignals → (t : Thing) → isGiven t ≡ true → u .tooMany ≡ false → Somewhere (Comes t) told →
-      isThere u t ≡ true
+      length (s .present) ≡ mostSignals → (t : Thing) → isGiven t ≡ true → Somewhere (Comes t) told → isThere u t ≡ true
   pub came : (t : Thing) → isThere s t ≡ false → isThere u t ≡ true → Somewhere (Comes t) told
-  pub few : u .tooMany ≡ false → s .tooMany ≡ false
   pub unmoved : howMany givesSignal told ≡ 0 → u .moved ≡ s .moved
   pub moved : 0 < howMany givesSignal told → u .moved ≡ true
 
 -- where no end is told, whatever comes is there
 pub all-brought :
     {s u : State} {told : List Happening} → Carries s told u → length (s .present) ≡ mostSignals → howMany endsRoutine told ≡ 0 →
-    (t : Thing) → u .tooMany ≡ false → Somewhere (Comes t) told → isThere u t ≡ true
-all-brought c l none (signal e) h k = c .brings l (signal e) refl h k
-all-brought {told = told} c l none (end q) h k = absurd (none-told endsRoutine (Comes (end q)) end-ends told none k)
-all-brought c l none (number e n) h k = c .brings l (number e n) refl h k
+    (t : Thing) → Somewhere (Comes t) told → isThere u t ≡ true
+all-brought c l none (signal e) k = c .brings l (signal e) refl k
+all-brought {told = told} c l none (end q) k = absurd (none-told endsRoutine (Comes (end q)) end-ends told none k)
+all-brought c l none (number e n) k = c .brings l (number e n) refl k
 
 -- no signal is given
 carries-none : {s u : State} (told : List Happening) → howMany givesSignal told ≡ 0 → Untouched s u → Ungiven s u → Carries s told u
@@ -55,9 +53,8 @@ carries-none told none a b =
     record {
       present = ap length (b .present);
       keeps = λ t h. same-things a b t ∙ h;
-      brings = λ l t g h k. absurd (none-told givesSignal (Comes t) (given-by-signals g) told none k);
+      brings = λ l t g k. absurd (none-told givesSignal (Comes t) (given-by-signals g) told none k);
       came = λ t h k. clash k (same-things a b t ∙ h);
-      few = λ h. sym (b .tooMany) ∙ h;
       unmoved = λ h. b .moved;
       moved = λ h. absurd (omega arith);
     }
@@ -73,13 +70,12 @@ carries-then s u v a b c d =
       present = d .present ∙ c .present;
       keeps = λ t h. d .keeps t (c .keeps t h);
       brings =
-          λ l t g h k.
+          λ l t g k.
           elim (somewhere-append (Comes t) a b k) [
-            | inl m ↦ d .keeps t (c .brings l t g (d .few h) m)
-            | inr m ↦ d .brings (c .present ∙ l) t g h m
+            | inl m ↦ d .keeps t (c .brings l t g m)
+            | inr m ↦ d .brings (c .present ∙ l) t g m
           ];
       came = λ t h k. in-either (Comes t) a b (isThere u t) (λ e. c .came t h e) (λ e. d .came t e k);
-      few = λ h. c .few (d .few h);
       unmoved = λ h. d .unmoved (omega arith) ∙ c .unmoved (omega arith);
       moved =
           λ h.
@@ -91,10 +87,9 @@ carries-then s u v a b c d =
 
 -- what came by a signal given is there
 come-there :
-    {s u : State} (t : Thing) {e k : ℕ} → e < length (s .present) → Gave s e k u → u .tooMany ≡ false → Comes t (gave e k) →
-    isThere u t ≡ true
-come-there t l b h Comes.signalGiven = b .signalThere l
-come-there t l b h Comes.numberGiven = b .numberThere h
+    {s u : State} (t : Thing) {e k : ℕ} → e < length (s .present) → Gave s e k u → Comes t (gave e k) → isThere u t ≡ true
+come-there t l b Comes.signalGiven = b .signalThere l
+come-there t l b Comes.numberGiven = b .numberThere
 
 -- one signal is given
 carries-one :
@@ -106,15 +101,14 @@ carries-one {s} {u} r p e k below b =
       keeps = b .keeps;
       brings = come;
       came = λ t h there. inr (inl (b .came t h there));
-      few = b .few;
       unmoved = λ h. absurd (omega arith);
       moved = λ h. b .moved;
     }
   where
     come :
-        length (s .present) ≡ mostSignals → (t : Thing) → isGiven t ≡ true → u .tooMany ≡ false →
-        Somewhere (Comes t) (completed r p ∷ gave e k ∷ []) → isThere u t ≡ true
-    come l t g h (inr (inl m)) = come-there t (omega arith) b h m
+        length (s .present) ≡ mostSignals → (t : Thing) → isGiven t ≡ true → Somewhere (Comes t) (completed r p ∷ gave e k ∷ []) →
+        isThere u t ≡ true
+    come l t g (inr (inl m)) = come-there t (omega arith) b m
 
 -- no step of a turn touches what no effect does
 module _ (counts : Counts) (r : ℕ) (steps : List ℕ) where

@@ -8,7 +8,7 @@ use mathlib.Core.List.{List}
 use mathlib.Core.Logic.{_⊎_, inl, inr}
 use native.Mathlib.Decide.{ℕ-discrete}
 use native.Mathlib.Omega.{arith}
-use borrow.Author.Tests.{le-ltb, eq-eqb}
+use borrow.Author.Tests.{eq-eqb}
 use lib.ListN.{length}
 use lib.IntN.{ℤ}
 use Rattle.numbers.proofs.Tests.{clash}
@@ -24,7 +24,6 @@ use Rattle.round.specs.Rounds.{mostPasses, listedIn, round}
 use Rattle.round.specs.Answers.{spaceFor, answer}
 use Rattle.round.specs.Tells.{RoundTells}
 use Rattle.round.specs.Demand.{Demand3}
-use Rattle.round.proofs.Given.{too-many}
 use Rattle.round.proofs.Telling.{round-told-only, answer-verdict, accepted-played}
 use Rattle.round.proofs.StartSound.{listed-below, at-start-sound, among-listed}
 use Rattle.round.proofs.Passes.{FairRound, fair-round}
@@ -54,10 +53,6 @@ module _ (book : List ℕ) (a : Accepted book) (g : Game) (f : Fits book g) wher
   pub none-going : (r : ℕ) → Among r (listedIn g) → isGoing (back book g) r ≡ false
   none-going = fair .noneGoing
 
-  -- no more numbers are given than are kept, so every one that is told is there
-  pub none-lost : back book g .tooMany ≡ false
-  none-lost = too-many book g ∙ le-ltb _ _ (completed-once book a g f .numbers)
-
   rested-or-ended :
       (r : ℕ) → Among r (listedIn g) → routineAt (atStart g .game) r .suspended ≡ false →
       (routineAt (back book g .game) r .stage ≡ rested) ⊎ (routineAt (back book g .game) r .stage ≡ ended)
@@ -78,7 +73,7 @@ module _ (book : List ℕ) (a : Accepted book) (g : Game) (f : Fits book g) wher
         fewPasses = omega (arith, fair .few);
         fewSignals = completed-once book a g f .signals;
         restedOrEnded = rested-or-ended;
-        caughtUp = fair .catchesUp none-lost;
+        caughtUp = fair .catchesUp;
       }
 
   -- "More than 1,024 numbers are given in one round." never applies: a buffer that is long enough is all that is left to ask

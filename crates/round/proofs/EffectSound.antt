@@ -2,15 +2,13 @@
 -- given, and an order of a step changes the game as an order from outside does.
 use Prim.Native.Nat.{ℕ, _<_}
 use mathlib.Core.Path.{_≡_, _∙_}
-use mathlib.Core.Bool.{Bool, true}
+use mathlib.Core.Bool.{true}
 use mathlib.Core.List.{List, [], _∷_}
 use native.Mathlib.Omega.{arith}
 use native.Mathlib.Decide.{decLt}
-use lib.Dec.{ltb}
-use lib.ListN.{length, getD, length-set, List·getD-eq-default}
+use lib.ListN.{getD, length-set, List·getD-eq-default}
 use lib.IntN.{ℤ, pos}
 use Rattle.numbers.specs.Numbers.{CounterInRange}
-use Rattle.numbers.proofs.Tests.{by-test}
 use Rattle.layout.specs.Layout.{mostCounters, countersOf, countsOf}
 use Rattle.book.specs.Accepted.{Accepted}
 use Rattle.game.specs.declared.Game.{Game}
@@ -22,7 +20,7 @@ use Rattle.orders.proofs.Obeyed.{obeyed-fits}
 use Rattle.round.specs.declared.Effect.{Effect}
 use Rattle.round.specs.declared.Effect.the-variants.{Nothing, Mark, Put, Add, Give, GiveNumber, Start, Stop, Suspend, Resume}
 use Rattle.round.specs.State.{State, withGame, withNumbers}
-use Rattle.round.specs.Ticks.{mostNumbers, given, effectOn}
+use Rattle.round.specs.Ticks.{given, effectOn}
 use Rattle.round.proofs.Acts.{NumbersRight, Ranged, Right, nothing, mark, put, add, give, giveNumber}
 use Rattle.round.proofs.Acts.{start, stop, suspend, resume}
 use Rattle.round.proofs.Among.{all-append}
@@ -55,8 +53,8 @@ module _ {book : List ℕ} {s : State} (h : Sound book s) where
   game-sound g f = record { fits = f; present = h .present; endSignals = h .endSignals; numbers = h .numbers }
 
   -- a signal is given, and these are the numbers then
-  given-sound : (e : ℕ) (l : List (ℕ × ℤ)) (over : Bool) → NumbersRight l → Sound book (withNumbers (given s e) l over)
-  given-sound e l over numbers =
+  given-sound : (e : ℕ) (l : List (ℕ × ℤ)) → NumbersRight l → Sound book (withNumbers (given s e) l)
+  given-sound e l numbers =
       record {
         fits = h .fits;
         present = length-set (s .present) e true ∙ h .present;
@@ -80,13 +78,9 @@ module _ (book : List ℕ) (a : Accepted book) where
   effect-sound s (Mark n) mark h = h
   effect-sound s (Put c v) (put below inside) h = counter-sound h c v below (inside (sound-ranged h))
   effect-sound s (Add c v) (add below inside) h = counter-sound h c (v .sum) below inside
-  effect-sound s (Give e) (give below) h = given-sound h e (s .numbers) (s .tooMany) (h .numbers)
+  effect-sound s (Give e) (give below) h = given-sound h e (s .numbers) (h .numbers)
   effect-sound s (GiveNumber e v) (giveNumber below inside) h =
-      by-test (Sound book) (ltb (length (s .numbers)) mostNumbers)
-      (λ room.
-      let all = all-append (λ x. CounterInRange (x .1)) (s .numbers) ((e, v) ∷ []) (h .numbers) (inside (sound-ranged h), tt) in
-      given-sound h e _ (s .tooMany) all)
-      (λ full. given-sound h e (s .numbers) true (h .numbers))
+      given-sound h e _ (all-append (λ x. CounterInRange (x .1)) (s .numbers) ((e, v) ∷ []) (h .numbers) (inside (sound-ranged h), tt))
   effect-sound s (Start t) (start below) h = order-sound h 1 t below
   effect-sound s (Stop t) (stop below) h = order-sound h 2 t below
   effect-sound s (Suspend t) (suspend below) h = order-sound h 3 t below

@@ -9,22 +9,21 @@ use native.Mathlib.Nat.{le-trans}
 use native.Mathlib.Decide.{ℕ-discrete}
 use native.Mathlib.Omega.{arith}
 use borrow.Author.Tests.{le-leb, leb-true, leb-false, eq-eqb, ne-eqb}
-use lib.Dec.{eqb, leb, ltb}
+use lib.Dec.{eqb, leb}
 use lib.ListN.{length, getD, length-set, length-append}
 use lib.IntN.{ℤ}
 use lib.Seq.{getD-set-same}
 use Rattle.numbers.specs.Choice.{if_then_else_}
-use Rattle.numbers.proofs.Tests.{clash, by-test}
+use Rattle.numbers.proofs.Tests.{clash}
 use Rattle.game.specs.declared.Game.{Game}
 use Rattle.game.specs.Game.{blank, routineAt, withFlags, withRoutine}
-use Rattle.game.specs.Game as stage
 use Rattle.orders.proofs.Stores.{entry-set, same-set}
 use Rattle.round.specs.declared.Effect.{Effect}
 use Rattle.round.specs.declared.Effect.the-variants.{Nothing, Mark, Put, Add, Give, GiveNumber, Start, Stop, Suspend, Resume}
 use Rattle.round.specs.State.{State, withGame, withNumbers, Thing, signal, end, number, gave, numbersWith, numbersOf}
-use Rattle.round.specs.State.{isEndThere, isThere}
+use Rattle.round.specs.State.{hasEnded, isEndThere, isThere}
 use Rattle.round.specs.Actions.{positionOf}
-use Rattle.round.specs.Ticks.{mostNumbers, given, effectOn}
+use Rattle.round.specs.Ticks.{given, effectOn}
 use Rattle.round.specs.Demand.{Comes}
 use Rattle.round.proofs.Acts.{isGiving}
 use Rattle.round.proofs.Standings.{SameStanding, same-standing, standing-then, SameStandings, StillThere}
@@ -87,10 +86,7 @@ module _ (s : State) where
   effect-untouched (Put c v) = untouched-but refl refl refl refl refl
   effect-untouched (Add c v) = untouched-but refl refl refl refl refl
   effect-untouched (Give e) = untouched-but refl refl refl refl refl
-  effect-untouched (GiveNumber e v) =
-      by-test (Untouched s) (ltb (length (s .numbers)) mostNumbers)
-      (λ h. untouched-but refl refl refl refl refl)
-      (λ h. untouched-but refl refl refl refl refl)
+  effect-untouched (GiveNumber e v) = untouched-but refl refl refl refl refl
   effect-untouched (Start t) = untouched-but refl refl refl refl refl
   effect-untouched (Stop t) = flags-untouched t _ _ _
   effect-untouched (Suspend t) = flags-untouched t _ _ _
@@ -100,12 +96,11 @@ module _ (s : State) where
 pub record Ungiven (s u : State) : Type 0 where
   pub present : u .present ≡ s .present
   pub numbers : u .numbers ≡ s .numbers
-  pub tooMany : u .tooMany ≡ s .tooMany
   pub moved : u .moved ≡ s .moved
 
 -- another game, or the same
 pub ungiven : {s : State} {g : Game} → Ungiven s (withGame s g)
-ungiven = record { present = refl; numbers = refl; tooMany = refl; moved = refl }
+ungiven = record { present = refl; numbers = refl; moved = refl }
 
 pub effect-ungiven : (s : State) (e : Effect) → isGiving e ≡ false → Ungiven s (effectOn e s)
 unfolding effectOn
@@ -122,7 +117,7 @@ effect-ungiven s (Resume t) h = ungiven
 
 -- a routine's end is there by its stage and its end signal alone
 pub same-end :
-    (s u : State) (r : ℕ) → eqb (routineAt (u .game) r .stage) stage.ended ≡ eqb (routineAt (s .game) r .stage) stage.ended →
+    (s u : State) (r : ℕ) → hasEnded (routineAt (u .game) r .stage) ≡ hasEnded (routineAt (s .game) r .stage) →
     u .endSignals ≡ s .endSignals → isThere u (end r) ≡ isThere s (end r)
 unfolding isThere isEndThere
 same-end s u r h k = rw (h, k)
@@ -131,7 +126,7 @@ same-end s u r h k = rw (h, k)
 pub same-things : {s u : State} → Untouched s u → Ungiven s u → (t : Thing) → isThere u t ≡ isThere s t
 unfolding isThere
 same-things a b (signal e) = ap (λ l. getD l e false) (b .present)
-same-things {s} {u} a b (end r) = same-end s u r (ap (λ n. eqb n stage.ended) (a .standings r .stage)) (a .endSignals)
+same-things {s} {u} a b (end r) = same-end s u r (ap hasEnded (a .standings r .stage)) (a .endSignals)
 same-things a b (number e k) = ap (λ l. leb k (length (numbersWith e l))) (b .numbers)
 
 numbers-append : (e : ℕ) (l m : List (ℕ × ℤ)) → numbersWith e (l ++ m) ≡ numbersWith e l ++ numbersWith e m
@@ -149,34 +144,32 @@ pub record Gave (s : State) (e k : ℕ) (u : State) : Type 0 where
   pub keeps : StillThere s u
   pub came : (t : Thing) → isThere s t ≡ false → isThere u t ≡ true → Comes t (gave e k)
   pub signalThere : e < length (s .present) → isThere u (signal e) ≡ true
-  pub numberThere : u .tooMany ≡ false → isThere u (number e k) ≡ true
-  pub few : u .tooMany ≡ false → s .tooMany ≡ false
+  pub numberThere : isThere u (number e k) ≡ true
   pub moved : u .moved ≡ true
 
 module _ (s : State) (e : ℕ) where
-  -- with these numbers, of which none is new but the k-th, and this flag for too many
+  -- with these numbers, of which none is new but the k-th
   gave-with :
-      (k : ℕ) (l : List (ℕ × ℤ)) (over : Bool) → ((f : ℕ) → length (numbersOf s f) ≤ length (numbersWith f l)) →
+      (k : ℕ) (l : List (ℕ × ℤ)) → ((f : ℕ) → length (numbersOf s f) ≤ length (numbersWith f l)) →
       ((f j : ℕ) → length (numbersOf s f) < j → j ≤ length (numbersWith f l) → (f ≡ e) × (j ≡ k)) →
-      (over ≡ false → (k ≤ length (numbersWith e l)) × (s .tooMany ≡ false)) → Gave s e k (withNumbers (given s e) l over)
+      k ≤ length (numbersWith e l) → Gave s e k (withNumbers (given s e) l)
   unfolding isThere isEndThere
-  gave-with k l over more new room =
+  gave-with k l more new there =
       record {
         present = length-set (s .present) e true;
         keeps = kept;
         came = comes;
         signalThere = λ h. getD-set-same (s .present) e true false h;
-        numberThere = λ h. le-leb _ _ (room h .0);
-        few = λ h. room h .1;
+        numberThere = le-leb _ _ there;
         moved = refl;
       }
     where
-      kept : StillThere s (withNumbers (given s e) l over)
+      kept : StillThere s (withNumbers (given s e) l)
       kept (signal f) h = entry-set (λ b. b ≡ true) (s .present) e true false f (λ at. refl) h
       kept (end r) h = h
       kept (number f j) h = le-leb j _ (le-trans (leb-true j _ h) (more f))
 
-      comes : (t : Thing) → isThere s t ≡ false → isThere (withNumbers (given s e) l over) t ≡ true → Comes t (gave e k)
+      comes : (t : Thing) → isThere s t ≡ false → isThere (withNumbers (given s e) l) t ≡ true → Comes t (gave e k)
       comes (signal f) h there =
           entry-set (λ b. b ≡ true → Comes (signal f) (gave e k)) (s .present) e true false f (λ m on. rw m Comes.signalGiven)
           (λ on. clash on h) there
@@ -187,16 +180,13 @@ module _ (s : State) (e : ℕ) where
 
   pub give : Gave s e 0 (effectOn (Give e) s)
   unfolding effectOn
-  give = gave-with 0 (s .numbers) (s .tooMany) (λ f. omega arith) (λ f j l m. absurd (omega arith)) (λ h. (omega arith, h))
+  give = gave-with 0 (s .numbers) (λ f. omega arith) (λ f j l m. absurd (omega arith)) (omega arith)
 
   pub give-number : (v : ℤ) → Gave s e (length (numbersOf s e) + 1) (effectOn (GiveNumber e v) s)
   unfolding effectOn numbersWith
   give-number v =
-      by-test (Gave s e (length (numbersOf s e) + 1)) (ltb (length (s .numbers)) mostNumbers)
-      (λ h.
-      gave-with _ _ _ (λ f. rw (numbers-append, length-append) (omega arith))
-      (λ f j l m. next f j l (rw (numbers-append, length-append) at m)) (λ h. (rw (numbers-append, length-append) one, h)))
-      (λ h. gave-with _ _ _ (λ f. omega arith) (λ f j l m. absurd (omega arith)) (λ h. clash refl h))
+      gave-with _ _ (λ f. rw (numbers-append, length-append) (omega arith))
+      (λ f j l m. next f j l (rw (numbers-append, length-append) at m)) (rw (numbers-append, length-append) one)
     where
       one : length (numbersOf s e) + 1 ≤ length (numbersOf s e) + length (numbersWith e ((e, v) ∷ []))
       one = rw (eq-eqb e e refl) (omega arith)

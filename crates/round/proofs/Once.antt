@@ -1,25 +1,29 @@
 -- No step is completed twice in one round by one routine: a listed routine pays for each step of a set that it completes with one of those
--- that it has left, and at the round's start it has no more left than it has. Signals, numbers and marks are told by steps of their own.
+-- that it has left, and at the round's start it has no more left than it has. Signals, numbers and marks are told by steps of their own; so
+-- a round gives at most as many numbers as the book has steps.
 use Prim.Native.Nat.{ℕ, _≤_}
 use mathlib.Core.Bool.{Bool}
 use mathlib.Core.List.{List}
 use native.Mathlib.Omega.{arith}
 use lib.Dec.{eqb}
 use lib.ListN.{length}
+use Rattle.layout.specs.Layout.{stepsOf}
 use Rattle.book.specs.Accepted.{Accepted}
 use Rattle.game.specs.declared.Game.{Game}
 use Rattle.fitting.specs.Fits.{Fits}
 use Rattle.round.specs.Counting.{stepsIn, howMany}
 use Rattle.round.specs.Actions.{atStart}
-use Rattle.round.specs.Rounds.{listedIn, historyOf}
+use Rattle.round.specs.Rounds.{listedIn, round, historyOf}
 use Rattle.round.specs.Answers.{opMark, marksIn}
+use Rattle.round.specs.Tells.{numbersGiven}
 use Rattle.round.specs.Demand.{isSignalStep, givesSignal}
 use Rattle.round.specs.Completed.{completes, theStep, isMarkStep, isAddition, CompletedOnce}
 use Rattle.round.proofs.StartSound.{listed-distinct, listed-below, at-start-sound}
+use Rattle.round.proofs.Given.{numbers-as-told}
 use Rattle.round.proofs.Paying.{leftOf, turn-pays}
 use Rattle.round.proofs.PayingPasses.{round-pays}
 use Rattle.round.proofs.Accounts.{numbers-few, signals-completed, marks-completed}
-use Rattle.round.proofs.BookSteps.{steps-in-book, few-steps}
+use Rattle.round.proofs.BookSteps.{steps-in-book, all-in-book, few-steps}
 use Rattle.round.proofs.OneStep.{one-of-distinct}
 use Rattle.round.proofs.Enough.{total-left}
 
@@ -36,6 +40,16 @@ module _ (book : List ℕ) (a : Accepted book) (g : Game) (f : Fits book g) wher
   marks-once : length (marksIn (historyOf book g)) ≤ stepsIn book (isMarkStep book) (listedIn g)
   marks-once = omega (arith, marks-completed book g, each-once (isMarkStep book))
 
+  numbers-in-book : numbersGiven (historyOf book g) ≤ stepsOf book
+  numbers-in-book =
+      let below = listed-below (at-start-sound book g a f) in
+      let signals = all-in-book book a (isSignalStep book) (listedIn g) (listed-distinct book g a f) below in
+      omega (arith, numbers-few (historyOf book g), signals-once)
+
+  -- the numbers behind a round are at most as many as the book has steps
+  pub numbers-kept : length (round book g .played .state .numbers) ≤ stepsOf book
+  numbers-kept = omega (arith, numbers-as-told book g, numbers-in-book)
+
   pub completed-once : CompletedOnce book g
   completed-once =
       let below = listed-below (at-start-sound book g a f) in
@@ -46,12 +60,6 @@ module _ (book : List ℕ) (a : Accepted book) (g : Game) (f : Fits book g) wher
         signals = signals-once;
         marks = marks-once;
         space = omega (arith, marks-once, steps-in-book book a (λ op. eqb op opMark) (listedIn g) distinct below);
-        numbers =
-            omega (
-              arith,
-              numbers-few (historyOf book g),
-              signals-once,
-              few-steps book a (isSignalStep book) (listedIn g) distinct below,
-            );
+        numbers = omega (arith, numbers-in-book, a .laid .counts .fewSteps);
         additions = omega (arith, each-once (isAddition book), few-steps book a (isAddition book) (listedIn g) distinct below);
       }

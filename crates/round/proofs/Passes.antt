@@ -16,7 +16,7 @@ use Rattle.round.proofs.Among.{All}
 use Rattle.round.proofs.Histories.{moves-append, nothing-comes}
 use Rattle.round.proofs.Asking.{asks-once}
 use Rattle.round.proofs.TurnLaws.{isGoing, moves, Waits, Lacks, TurnLaws}
-use Rattle.round.proofs.Waiting.{passed, pass-stays, moved-pass, done-pass}
+use Rattle.round.proofs.Waiting.{pass-stays, moved-pass, done-pass}
 use Rattle.round.proofs.Closing.{all-stuck, closing-pass}
 use Rattle.round.proofs.CatchingUp.{Caught, catches, quiet-caught, Owed, owed-again, caught-pass}
 
@@ -24,7 +24,7 @@ use Rattle.round.proofs.CatchingUp.{Caught, catches, quiet-caught, Owed
 pub record FairRound (L : List ℕ) (R : Round) : Type 0 where
   pub few : R .passes ≤ 2 + moves (R .played .told)
   pub noneGoing : (r : ℕ) → Among r L → isGoing (R .played .state) r ≡ false
-  pub catchesUp : R .played .state .tooMany ≡ false → CatchesUp (R .played .told)
+  pub catchesUp : CatchesUp (R .played .told)
 
 module _
     {book : List ℕ} {Listed : ℕ → Type 0} {Ok : State → Type 0} (laws : TurnLaws book Listed Ok) (L : List ℕ) (listed : All Listed L)
@@ -58,8 +58,7 @@ module _
     record Fair (s : State) (R : Round) : Type 0 where
       few : R .passes ≤ 2 + moves (R .played .told)
       none : (r : ℕ) → Among r L → isGoing (R .played .state) r ≡ false
-      early : R .played .state .tooMany ≡ false → s .tooMany ≡ false
-      caught : R .played .state .tooMany ≡ false → Owed book L s (R .played .told) × Caught (R .played .told)
+      caught : Owed book L s (R .played .told) × Caught (R .played .told)
 
     module _ (s : State) (k : Ok s) (e : s .eoi ≡ false) where
       -- the last pass
@@ -70,27 +69,22 @@ module _
           record {
             few = omega arith;
             none = none;
-            early = passed laws L listed s k .few;
-            caught = λ x.
+            caught =
                 subst (λ (h : List Happening). Owed book L s h × Caught h) (append-nil told)
-                (caught-pass laws L L listed (λ r i. i) s k e x [] (λ r p t i g w c. clash g (none r i)) tt);
+                (caught-pass laws L L listed (λ r i. i) s k e [] (λ r p t i g w c. clash g (none r i)) tt);
           }
 
       -- a pass, and those behind it
       joined :
           (R : Round) → R .passes + 1 ≤ 2 + (moves (pass book L s .told) + moves (R .played .told)) →
           ((r : ℕ) → Among r L → isGoing (R .played .state) r ≡ false) →
-          (R .played .state .tooMany ≡ false → pass book L s .state .tooMany ≡ false) →
-          (R .played .state .tooMany ≡ false → Owed book L (pass book L s .state) (R .played .told) × Caught (R .played .told)) →
+          Owed book L (pass book L s .state) (R .played .told) → Caught (R .played .told) →
           Fair s (record { played = followedBy (pass book L s) (R .played); passes = R .passes + 1 })
-      joined R few none early caught =
+      joined R few none owed caught =
           record {
             few = omega (arith, moves-append (pass book L s .told) (R .played .told));
             none = none;
-            early = λ x. passed laws L listed s k .few (early x);
-            caught = λ x.
-                let (f, c) = caught x in
-                caught-pass laws L L listed (λ r i. i) s k e (early x) (R .played .told) f c;
+            caught = caught-pass laws L L listed (λ r i. i) s k e (R .played .told) owed caught;
           }
 
       -- behind a pass without a move there is one more, and nothing comes in it
@@ -104,15 +98,13 @@ module _
           let (quiet, done) = closing-pass laws L listed s k w in
           let told = pass book L (again p) .told in
           joined (record { played = pass book L (again p); passes = 1 }) (omega arith)
-          (λ r i. done-pass laws L listed (again p) ok done r (inl i)) (passed laws L listed (again p) ok .few)
-          (λ x. (
-            λ r q t i g a c.
-                elim c [
-                  | inl there ↦ absurd (lacking p r q t a (all-stuck laws L listed s k w r i g) there)
-                  | inr comes ↦ absurd (nothing-comes t told quiet comes)
-                ],
-            quiet-caught told quiet,
-          ))
+          (λ r i. done-pass laws L listed (again p) ok done r (inl i))
+          (λ r q t i g a c.
+          elim c [
+            | inl there ↦ absurd (lacking p r q t a (all-stuck laws L listed s k w r i g) there)
+            | inr comes ↦ absurd (nothing-comes t told quiet comes)
+          ])
+          (quiet-caught told quiet)
 
     fair : (n : ℕ) (s : State) → Ok s → s .eoi ≡ false → s .moved ≡ false → RoundEnds book n L s → Fair s (instant book n L s)
     unfolding RoundEnds instant
@@ -125,8 +117,8 @@ module _
         by-flag (first .state .moved)
         (λ w.
         let rest = fair n u ok (ap not w) refl (later d ends) in
-        joined s k e (instant book n L u) (omega (arith, rest .few, moved-pass laws L listed s k m w)) (rest .none) (rest .early)
-        (λ x. (owed-again book L (first .state) (instant book n L u .played .told) (rest .caught x .0), rest .caught x .1)))
+        joined s k e (instant book n L u) (omega (arith, rest .few, moved-pass laws L listed s k m w)) (rest .none)
+        (owed-again book L (first .state) (instant book n L u .played .told) (rest .caught .0)) (rest .caught .1))
         (λ w. closed n (later d ends) w))
       where
         later :
@@ -155,5 +147,5 @@ module _
         record {
           few = all .few;
           noneGoing = all .none;
-          catchesUp = λ x. catches (instant book n L s .played .told) (all .caught x .1);
+          catchesUp = catches (instant book n L s .played .told) (all .caught .1);
         }

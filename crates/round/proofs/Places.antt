@@ -174,7 +174,7 @@ module _ (book : List ℕ) (r : ℕ) where
     abbrev Own : Position → State → Ticks → Type 0
     Own x s t =
         Makes book s (t .told) (t .state) ×
-        (t .state .tooMany ≡ false → x .place ≤ sizeOf steps →
+        (x .place ≤ sizeOf steps →
         InPlace (t .told) (contentsOf s) (x .place) ×
         Halted (t .told) (placeAfter book r (t .told) (contentsOf s) (x .place)) (t .ending) (t .position))
 
@@ -207,12 +207,12 @@ module _ (book : List ℕ) (r : ℕ) where
         let now = completed r (x .place) ∷ told in
         let (leads, first) = goes-agrees book r x s same in (
           makes-both book s (effectOn e s) (t .state) now (t .told) first makes,
-          λ few inside.
-              let (others, stop) = later few (leaves-inside book a r below x q leaves) in
+          λ inside.
+              let (others, stop) = later (leaves-inside book a r below x q leaves) in
               let (one, led) = goes-own x s q told leads (says-still says) in
-              let (all, to) = walked now (t .told) (contentsOf s) _ (x .place) q (first (makes few .0) .1) led one others in
+              let (all, to) = walked now (t .told) (contentsOf s) _ (x .place) q first led one others in
               (all, rw to (halted-later now (t .told) _ (t .ending) (t .position) stop)),
         ))
         (λ x s how y told same stays stops.
-        (halts-agrees book r x s same .1, λ few inside. stops-own x s stops (halted x s same stops inside)))
-        (λ x s. (makes-same book s, λ few inside. (tt, refl)))
+        (halts-agrees book r x s same .1, λ inside. stops-own x s stops (halted x s same stops inside)))
+        (λ x s. (makes-same book s, λ inside. (tt, refl)))

@@ -1,14 +1,13 @@
 -- Each step does what its fields say when what is told is carried out again: by the rows of the table of kinds, it changes the counters and
 -- numbers so and leads on so, or it halts the turn and leaves its routine so. Hence the counters and numbers at a round's end are what the
--- steps told as completed make of the counters before it; no number is lost in a round.
+-- steps told as completed make of the counters before it.
 use Prim.Native.Nat.{ℕ}
 use mathlib.Core.Path.{_≡_, refl, sym, subst, ap, _∙_}
-use mathlib.Core.Bool.{false, _&&_, not}
+use mathlib.Core.Bool.{_&&_, not}
 use mathlib.Core.List.{List, [], _∷_, _++_}
 use mathlib.Core.Logic.{_⊎_, inl, inr}
 use native.Mathlib.Omega.{arith}
-use lib.Dec.{eqb, ltb}
-use lib.ListN.{length}
+use lib.Dec.{eqb}
 use lib.IntN.{ℤ}
 use Rattle.numbers.specs.Numbers.{countOf}
 use Rattle.kinds.specs.declared.Kind.{Kind}
@@ -19,10 +18,8 @@ use Rattle.kinds.specs.Steps.{table, opAt, fieldA, fieldB, fieldN, stepAt}
 use Rattle.kinds.proofs.Rows.{Rows, _and_, step-holds, row-kind}
 use Rattle.layout.specs.Layout.{countsOf}
 use Rattle.directory.specs.Directory.{routineSteps}
-use Rattle.book.specs.Accepted.{Accepted}
 use Rattle.game.specs.declared.Game.{Game}
-use Rattle.fitting.specs.Fits.{Fits}
-use Rattle.numbers.proofs.Tests.{clash, by-test}
+use Rattle.numbers.proofs.Tests.{by-test}
 use Rattle.round.specs.declared.Ending.{Ending}
 use Rattle.round.specs.declared.Ending.the-variants.{Ended, Rested, Missed, Continued}
 use Rattle.round.specs.declared.Position.{Position}
@@ -34,14 +31,13 @@ use Rattle.round.specs.State.{State, Thing, signal, end, number, Happeni
 use Rattle.round.specs.State.{numberAt, isThere}
 use Rattle.round.specs.Actions.{atStart}
 use Rattle.round.specs.Jumps.{sizeOf}
-use Rattle.round.specs.Ticks.{Tick, telling, fresh, countAt, onward, tries, waitsFor, tickOf, quits, tickAt, tick, mostNumbers}
+use Rattle.round.specs.Ticks.{Tick, telling, fresh, countAt, onward, tries, waitsFor, tickOf, quits, tickAt, tick}
 use Rattle.round.specs.Ticks.{effectOn}
 use Rattle.round.specs.Rounds.{ticks, ticksOf, turn, round, historyOf}
 use Rattle.round.specs.Replay.{opRest, opRestFor, Contents, madeBy, leadsTo, leftBy, atStep, madeOf, contentsAfter}
 use Rattle.round.proofs.Stepping.{ticks-by}
 use Rattle.round.proofs.Along.{round-always}
 use Rattle.round.proofs.AfterTurn.{end-keeps, turn-by}
-use Rattle.round.proofs.Demand.{none-lost}
 
 -- the counters and numbers of a state
 abbrev pub contentsOf : State → Contents
@@ -53,20 +49,16 @@ module _ (book : List ℕ) where
   after-append [] b c = refl
   after-append (h ∷ a) b c = after-append a b (madeOf book h c)
 
-  -- what is told between two states makes the second's contents of the first's; nothing is claimed where more numbers are given than are
-  -- kept
+  -- what is told between two states makes the second's contents of the first's
   abbrev pub Makes : State → List Happening → State → Type 0
-  Makes s told u = u .tooMany ≡ false → (s .tooMany ≡ false) × (contentsOf u ≡ contentsAfter book told (contentsOf s))
+  Makes s told u = contentsOf u ≡ contentsAfter book told (contentsOf s)
 
   pub makes-same : (s : State) → Makes s [] s
   unfolding contentsAfter
-  makes-same s few = (few, refl)
+  makes-same s = refl
 
   pub makes-both : (s u v : State) (a b : List Happening) → Makes s a u → Makes u b v → Makes s (a ++ b) v
-  makes-both s u v a b first then h =
-      let (here, second) = then h in
-      let (few, one) = first here in
-      (few, second ∙ ap (contentsAfter book b) one ∙ sym (after-append a b (contentsOf s)))
+  makes-both s u v a b first then = then ∙ ap (contentsAfter book b) first ∙ sym (after-append a b (contentsOf s))
 
   -- routine r stands at position x
   module _ (r : ℕ) (x : Position) (s : State) where
@@ -86,8 +78,7 @@ module _ (book : List ℕ) where
       abbrev Agrees : Act → List Happening → Type 0
       Agrees (Goes q e) told =
           (q ≡ leadsTo steps (x .place) op a b n (s .game .counters)) ×
-          (effectOn e s .tooMany ≡ false →
-          (s .tooMany ≡ false) × (contentsOf (effectOn e s) ≡ contentsAfter book told (madeBy op a b n (contentsOf s))))
+          (contentsOf (effectOn e s) ≡ contentsAfter book told (madeBy op a b n (contentsOf s)))
       Agrees (Halts how y) told = LeavesAt how y × Makes s told s
 
       abbrev TickAgrees : Tick → Type 0
@@ -100,8 +91,7 @@ module _ (book : List ℕ) where
       tries-agrees t e y h left =
           by-test TickAgrees (isThere s t) (λ there. h)
           (λ none.
-          by-test (λ act. Agrees act (missing r (x .place) t ∷ [])) (s .eoi) (λ closing. (left, λ few. (few, refl)))
-          (λ going. (refl, λ few. (few, refl))))
+          by-test (λ act. Agrees act (missing r (x .place) t ∷ [])) (s .eoi) (λ closing. (left, refl)) (λ going. (refl, refl)))
 
       waits-agrees :
           (t : Thing) (k : ℕ) → Agrees (onward r steps x s Nothing) [] → x .place ≡ leftBy op (x .place) →
@@ -115,32 +105,28 @@ module _ (book : List ℕ) where
         Rows (λ op row. TickAgrees op a b n (tickOf r steps x s (row .4))) 0 (table (countsOf book) a b n)
     unfolding tickOf effectOn madeBy leadsTo contentsAfter
     table-agrees a b n =
-        (refl, λ few. (few, refl))
-        and (refl, λ few. (few, refl))
-        and (refl, λ few. (few, refl))
-        and (refl, λ few. (few, refl))
-        and (refl, λ few. (few, refl))
-        and (
-          refl,
-          by-test (λ u. u .tooMany ≡ false → (s .tooMany ≡ false) × (contentsOf u ≡ madeBy 5 a b n (contentsOf s)))
-              (ltb (length (s .numbers)) mostNumbers) (λ room few. (few, refl)) (λ full few. clash refl few),
-        )
-        and ((inl refl, refl), λ few. (few, refl))
-        and by-test (λ act. Agrees 7 a b n act []) (eqb (countAt x (countOf n)) 0) (λ over. (refl, λ few. (few, refl)))
-        (λ some. ((inr refl, refl), λ few. (few, refl)))
-        and tries-agrees 8 a b n (signal a) Nothing (fresh (x .place)) (refl, λ few. (few, refl)) refl
-        and waits-agrees 9 a b n (signal a) (countAt x (countOf n)) (refl, λ few. (few, refl)) refl
-        and tries-agrees 10 a b n (end a) Nothing (fresh (x .place)) (refl, λ few. (few, refl)) refl
-        and waits-agrees 11 a b n (end a) (countAt x (countOf n)) (refl, λ few. (few, refl)) refl
-        and tries-agrees 12 a b n (number a (countOf n)) (Put b (numberAt s a (countOf n))) _ (refl, λ few. (few, refl)) refl
-        and (refl, λ few. (few, refl))
-        and (refl, λ few. (few, refl))
-        and (refl, λ few. (few, refl))
-        and (refl, λ few. (few, refl))
-        and (refl, λ few. (few, refl))
-        and (refl, λ few. (few, refl))
-        and (refl, λ few. (few, refl))
-        and (refl, λ few. (few, refl))
+        (refl, refl)
+        and (refl, refl)
+        and (refl, refl)
+        and (refl, refl)
+        and (refl, refl)
+        and (refl, refl)
+        and ((inl refl, refl), refl)
+        and by-test (λ act. Agrees 7 a b n act []) (eqb (countAt x (countOf n)) 0) (λ over. (refl, refl))
+        (λ some. ((inr refl, refl), refl))
+        and tries-agrees 8 a b n (signal a) Nothing (fresh (x .place)) (refl, refl) refl
+        and waits-agrees 9 a b n (signal a) (countAt x (countOf n)) (refl, refl) refl
+        and tries-agrees 10 a b n (end a) Nothing (fresh (x .place)) (refl, refl) refl
+        and waits-agrees 11 a b n (end a) (countAt x (countOf n)) (refl, refl) refl
+        and tries-agrees 12 a b n (number a (countOf n)) (Put b (numberAt s a (countOf n))) _ (refl, refl) refl
+        and (refl, refl)
+        and (refl, refl)
+        and (refl, refl)
+        and (refl, refl)
+        and (refl, refl)
+        and (refl, refl)
+        and (refl, refl)
+        and (refl, refl)
         and tt
 
     -- what the step there comes to, or the routine's end where none stands
@@ -188,7 +174,7 @@ module _ (book : List ℕ) where
       where
         by : (st : Step) → StepAgrees st (telling (Halts how y) told) → HaltsAt st how y × Makes s told s
         by (step.Kind k) h = h
-        by step.Refused (h, k) = ((cc, cc), subst (λ (l : List Happening). Makes s l s) (sym k) (λ few. (few, refl)))
+        by step.Refused (h, k) = ((cc, cc), subst (λ (l : List Happening). Makes s l s) (sym k) refl)
 
   ticks-make :
       (r n : ℕ) (x : Position) (s : State) →
@@ -208,7 +194,6 @@ module _ (book : List ℕ) where
       (λ h. end-keeps (Makes s (t .told)) (t .ending) r _ (λ k. k) (ticks-make r _ _ s))
 
   pub contents-made :
-      (a : Accepted book) (g : Game) → Fits book g →
-      contentsOf (round book g .played .state) ≡ contentsAfter book (historyOf book g) (g .counters, [])
+      (g : Game) → contentsOf (round book g .played .state) ≡ contentsAfter book (historyOf book g) (g .counters, [])
   unfolding atStart
-  contents-made a g f = round-always Makes makes-same makes-both book turn-makes makes-same g (none-lost book a g f) .1
+  contents-made = round-always Makes makes-same makes-both book turn-makes makes-same

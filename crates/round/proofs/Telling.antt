@@ -5,7 +5,7 @@ use mathlib.Core.Path.{_≡_, refl, sym, ap, _∙_}
 use mathlib.Core.List.{List}
 use native.Mathlib.Omega.{arith}
 use native.Mathlib.Decide.{decLt}
-use borrow.Author.Tests.{eq-eqb, ne-eqb, le-leb, lt-leb, lt-ltb, le-ltb}
+use borrow.Author.Tests.{eq-eqb, ne-eqb, le-leb, lt-leb}
 use lib.Dec.{eqb}
 use lib.ListN.{length}
 use lib.IntN.{ℤ}
@@ -18,11 +18,10 @@ use Rattle.book.proofs.Telling.{told-only}
 use Rattle.game.specs.declared.Game.{Game}
 use Rattle.fitting.specs.Fits.{Fits}
 use Rattle.orders.proofs.Telling.{unfit-told, past-fit, by-fit}
-use Rattle.round.specs.Ticks.{mostNumbers}
 use Rattle.round.specs.Rounds.{round}
-use Rattle.round.specs.Answers.{spaceFor, roundVerdict, Answer, turnedDown, playedOut, answer}
+use Rattle.round.specs.Answers.{spaceFor, mostNumbers, roundVerdict, Answer, turnedDown, playedOut, answer}
 use Rattle.round.specs.Tells.{numbersGiven, RoundTells}
-use Rattle.round.proofs.Given.{too-many}
+use Rattle.round.proofs.Given.{numbers-as-told}
 
 pub round-told-only :
     {book : List ℕ} {g : Game} {buffer : List ℤ} {v : Verdict} → RoundTells book g buffer v → roundVerdict book g buffer ≡ v
@@ -30,8 +29,8 @@ unfolding roundVerdict
 round-told-only {book} (RoundTells.book t) = orElse-told _ _ (told-only book t)
 round-told-only {book} {g} (RoundTells.unfit a m) = unfit-told book g _ a m
 round-told-only {book} {g} (RoundTells.short a f h) = past-fit book g _ a f ∙ rw (lt-leb _ _ h)
-round-told-only {book} {g} (RoundTells.tooMany a f h m) = past-fit book g _ a f ∙ rw (le-leb _ _ h, too-many book g, lt-ltb _ _ m)
-round-told-only {book} {g} (RoundTells.nothing a f h m) = past-fit book g _ a f ∙ rw (le-leb _ _ h, too-many book g, le-ltb _ _ m)
+round-told-only {book} {g} (RoundTells.tooMany a f h m) = past-fit book g _ a f ∙ rw (le-leb _ _ h, numbers-as-told book g, lt-leb _ _ m)
+round-told-only {book} {g} (RoundTells.nothing a f h m) = past-fit book g _ a f ∙ rw (le-leb _ _ h, numbers-as-told book g, le-leb _ _ m)
 
 module _ (book : List ℕ) (g : Game) (buffer : List ℤ) where
   told : {v : Verdict} → RoundTells book g buffer v → RoundTells book g buffer (roundVerdict book g buffer)

@@ -1,5 +1,5 @@
 -- The history of a round is true: a try finds its thing exactly if the thing was there at the round's start or came before the try, and the
--- same is there behind the round. So it is of each turn, and turns and passes follow one another; no number is lost in a round.
+-- same is there behind the round. So it is of each turn, and turns and passes follow one another.
 use Prim.Native.Nat.{ℕ, _<_}
 use mathlib.Core.Path.{_≡_, refl, subst}
 use mathlib.Core.Bool.{true, false}
@@ -20,7 +20,6 @@ use Rattle.round.proofs.Sound.{Sound}
 use Rattle.round.proofs.Turned.{turn-turned}
 use Rattle.numbers.proofs.Tests.{clash}
 use Rattle.round.proofs.Closing.{there-again}
-use Rattle.round.proofs.Demand.{none-lost}
 use Rattle.round.proofs.TrueInOrder.{InOrder, order-at, There, Becomes, becomes-same, becomes-both, becomes-by, turn-order}
 
 module _ (book : List ℕ) (a : Accepted book) where
@@ -28,26 +27,26 @@ module _ (book : List ℕ) (a : Accepted book) where
       (r : ℕ) (s : State) → r < routinesOf book → Sound book s → Becomes s (turn book r s .told) (turn book r s .state)
   turn-becomes r s l ok =
       let t = turn-turned book a r s l ok in
-      becomes-by (t .flags .few) (t .keeps) (t .brings) (t .came) (turn-order book a r s ok)
+      becomes-by (t .keeps) (t .brings) (t .came) (turn-order book a r s ok)
 
   module _ (g : Game) (f : Fits book g) where
     all : Becomes (atStart g) (historyOf book g) (back book g)
     all =
-        round-along book a g f Becomes (λ s. becomes-same refl (λ t. refl)) becomes-both (λ r s l. turn-becomes r s (l .0))
-        (λ s. becomes-same refl (there-again s))
+        round-along book a g f Becomes (λ s. becomes-same (λ t. refl)) becomes-both (λ r s l. turn-becomes r s (l .0))
+        (λ s. becomes-same (there-again s))
 
     round-order : InOrder (There (atStart g)) (historyOf book g)
-    round-order = all .order (none-lost book a g f)
+    round-order = all .order
 
     -- what comes is there behind the round
     pub comes : (t : Thing) → Somewhere (Comes t) (historyOf book g) → isThere (back book g) t ≡ true
-    comes t w = all .there (none-lost book a g f) t .1 (inr w)
+    comes t w = all .there t .1 (inr w)
 
     -- what is new there has come
     pub came :
         (t : Thing) → isThere (atStart g) t ≡ false → isThere (back book g) t ≡ true →
         Somewhere (Comes t) (historyOf book g)
-    came t out there = ⊎-elim (λ k. clash k out) (λ w. w) (all .there (none-lost book a g f) t .0 there)
+    came t out there = ⊎-elim (λ k. clash k out) (λ w. w) (all .there t .0 there)
 
     module _ (before after : List Happening) (r p : ℕ) (t : Thing) where
       -- what was found was there, or came

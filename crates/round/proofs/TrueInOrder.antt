@@ -16,7 +16,7 @@ use Rattle.round.specs.declared.Effect.{Effect}
 use Rattle.round.specs.State.{State, Thing, Happening, gave, ended, missing, past, marked, completed, isThere}
 use Rattle.round.specs.Counting.{howMany, Somewhere}
 use Rattle.round.specs.Ticks.{effectOn}
-use Rattle.round.specs.Rounds.{ticks, ticksOf, turn}
+use Rattle.round.specs.Rounds.{ticks, turn}
 use Rattle.round.specs.Demand.{endsRoutine, Comes}
 use Rattle.round.proofs.Acts.{Right, Says, Stops}
 use Rattle.round.proofs.Among.{somewhere-append, in-first, in-second}
@@ -26,7 +26,7 @@ use Rattle.round.proofs.Sound.{Sound}
 use Rattle.round.proofs.Standings.{StillThere}
 use Rattle.round.proofs.Coming.{goes-carries, all-brought}
 use Rattle.round.proofs.EffectSound.{effect-sound}
-use Rattle.round.proofs.AfterTurn.{after-few, turn-by}
+use Rattle.round.proofs.AfterTurn.{turn-by}
 
 -- what a try says of the things that are known before it
 abbrev Holds : (Thing → Type 0) → Happening → Type 0
@@ -99,45 +99,33 @@ order-at P (x ∷ before) after h o =
 abbrev pub There : State → Thing → Type 0
 There s t = isThere s t ≡ true
 
--- state u comes of state s, with this told between them; nothing is claimed where more numbers are given than are kept
+-- state u comes of state s, with this told between them
 pub record Becomes (s : State) (told : List Happening) (u : State) : Type 0 where
-  pub few : u .tooMany ≡ false → s .tooMany ≡ false
-  pub there : u .tooMany ≡ false → (t : Thing) → There u t ↔ Since (There s) told t
-  pub order : u .tooMany ≡ false → InOrder (There s) told
+  pub there : (t : Thing) → There u t ↔ Since (There s) told t
+  pub order : InOrder (There s) told
 
 -- a try that holds of what is there holds of what was there before and has come
 order-then :
-    {s u : State} (a b : List Happening) → Becomes s a u → u .tooMany ≡ false → InOrder (There u) b → InOrder (There s) (a ++ b)
-order-then {s} {u} a b first few o =
-    order-append (There s) a b (first .order few) (order-same (There u) (Since (There s) a) (first .there few) b o)
+    {s u : State} (a b : List Happening) → Becomes s a u → InOrder (There u) b → InOrder (There s) (a ++ b)
+order-then {s} {u} a b first o = order-append (There s) a b (first .order) (order-same (There u) (Since (There s) a) (first .there) b o)
 
 pub becomes-both : (s u v : State) (a b : List Happening) → Becomes s a u → Becomes u b v → Becomes s (a ++ b) v
 becomes-both s u v a b first then =
     record {
-      few = λ h. first .few (then .few h);
-      there =
-          λ h t.
-          Iff·trans (then .there h t) (Iff·trans (same-or (first .there (then .few h) t)) (since-append (There s) a b t));
-      order = λ h. order-then a b first (then .few h) (then .order h);
+      there = λ t. Iff·trans (then .there t) (Iff·trans (same-or (first .there t)) (since-append (There s) a b t));
+      order = order-then a b first (then .order);
     }
 
 -- where nothing is told the same things are there
-pub becomes-same : {s u : State} → u .tooMany ≡ s .tooMany → ((t : Thing) → isThere u t ≡ isThere s t) → Becomes s [] u
-becomes-same many same =
-    record {
-      few = λ h. sym many ∙ h;
-      there = λ h t. (λ k. inl (sym (same t) ∙ k), ⊎-elim (λ k. same t ∙ k) (λ n. absurd n));
-      order = λ h. tt;
-    }
+pub becomes-same : {s u : State} → ((t : Thing) → isThere u t ≡ isThere s t) → Becomes s [] u
+becomes-same same = record { there = λ t. (λ k. inl (sym (same t) ∙ k), ⊎-elim (λ k. same t ∙ k) (λ n. absurd n)); order = tt }
 
 -- by what stays, what comes and what is new
 pub becomes-by :
-    {s u : State} {told : List Happening} → (u .tooMany ≡ false → s .tooMany ≡ false) → StillThere s u →
-    ((t : Thing) → u .tooMany ≡ false → Somewhere (Comes t) told → There u t) →
-    ((t : Thing) → isThere s t ≡ false → There u t → Somewhere (Comes t) told) → (u .tooMany ≡ false → InOrder (There s) told) →
-    Becomes s told u
-becomes-by {s} few keeps brings came order =
-    record { few = few; there = λ h t. (λ k. there-or (isThere s t) (λ n. came t n k), ⊎-elim (keeps t) (brings t h)); order = order }
+    {s u : State} {told : List Happening} → StillThere s u → ((t : Thing) → Somewhere (Comes t) told → There u t) →
+    ((t : Thing) → isThere s t ≡ false → There u t → Somewhere (Comes t) told) → InOrder (There s) told → Becomes s told u
+becomes-by {s} keeps brings came order =
+    record { there = λ t. (λ k. there-or (isThere s t) (λ n. came t n k), ⊎-elim (keeps t) (brings t)); order = order }
   where
     there-or : {A : Type 0} (b : Bool) → (b ≡ false → A) → (b ≡ true) ⊎ A
     there-or true h = inl refl
@@ -174,27 +162,18 @@ module _ (book : List ℕ) (a : Accepted book) where
     step-becomes x s e told right says ok =
         let c = goes-carries (countsOf book) r steps (a .laid .counts .fewSignals) x s e told right says in
         let noEnd = says-none endsRoutine (λ n. refl) (λ b k. refl) (λ t. refl) says in
-        becomes-by (c .few) (c .keeps) (all-brought c (ok .present) noEnd) (c .came) (λ h. says-order x s says)
+        becomes-by (c .keeps) (all-brought c (ok .present) noEnd) (c .came) (says-order x s says)
 
     -- the steps of a turn
     ticks-order :
         (n : ℕ) (x : Position) (s : State) → Sound book s →
-        let t = ticks n (countsOf book) r steps x s in
-        t .state .tooMany ≡ false → (s .tooMany ≡ false) × InOrder (There s) (t .told)
+        InOrder (There s) (ticks n (countsOf book) r steps x s .told)
     ticks-order =
-        ticks-by (countsOf book) r steps
-        (λ x s t. Sound book s → t .state .tooMany ≡ false → (s .tooMany ≡ false) × InOrder (There s) (t .told))
-        (λ x s q e told t same leaves right says rest ok few.
-        let (here, later) = rest (effect-sound book a s e right ok) few in
-        let first = step-becomes x s e told right says ok in
-        (first .few here, order-then (completed r (x .place) ∷ told) (t .told) first here later))
-        (λ x s how y told same stays stops ok few. (few, stop-order x s stops))
-        (λ x s ok few. (few, tt))
+        ticks-by (countsOf book) r steps (λ x s t. Sound book s → InOrder (There s) (t .told))
+        (λ x s q e told t same leaves right says rest ok.
+        order-then (completed r (x .place) ∷ told) (t .told) (step-becomes x s e told right says ok)
+        (rest (effect-sound book a s e right ok)))
+        (λ x s how y told same stays stops ok. stop-order x s stops) (λ x s ok. tt)
 
-  pub turn-order :
-      (r : ℕ) (s : State) → Sound book s → turn book r s .state .tooMany ≡ false → InOrder (There s) (turn book r s .told)
-  turn-order r s ok =
-      let t = ticksOf book r s in
-      turn-by book r s (λ p. p .state .tooMany ≡ false → InOrder (There s) (p .told)) (λ h few. tt)
-      (λ h few.
-      ticks-order r _ _ s ok (after-few r t few) .1)
+  pub turn-order : (r : ℕ) (s : State) → Sound book s → InOrder (There s) (turn book r s .told)
+  turn-order r s ok = turn-by book r s (λ p. InOrder (There s) (p .told)) (λ h. tt) (λ h. ticks-order r _ _ s ok)

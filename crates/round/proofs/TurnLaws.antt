@@ -46,20 +46,19 @@ pub record OthersStand (r : ℕ) (g h : Game) : Type 0 where
 -- the flags from one state to another, with this told between them
 pub record Passed (s : State) (told : List Happening) (u : State) : Type 0 where
   pub eoi : u .eoi ≡ s .eoi
-  pub few : u .tooMany ≡ false → s .tooMany ≡ false
   pub unmoved : moves told ≡ 0 → u .moved ≡ s .moved
   pub moved : 0 < moves told → u .moved ≡ true
 
 pub passed-same : (s : State) → Passed s [] s
 unfolding howMany
-passed-same s = record { eoi = refl; few = λ f. f; unmoved = λ m. refl; moved = λ m. absurd (omega arith) }
+passed-same s = record { eoi = refl; unmoved = λ m. refl; moved = λ m. absurd (omega arith) }
 
 -- what a turn of routine r in state s does, which told this and leaves state v
 pub record Turned (r : ℕ) (s : State) (told : List Happening) (v : State) : Type 0 where
   pub standings : OthersStand r (s .game) (v .game)
   pub flags : Passed s told v
   pub keeps : StillThere s v
-  pub brings : (t : Thing) → v .tooMany ≡ false → Somewhere (Comes t) told → isThere v t ≡ true
+  pub brings : (t : Thing) → Somewhere (Comes t) told → isThere v t ≡ true
   pub came : (t : Thing) → isThere s t ≡ false → isThere v t ≡ true → Somewhere (Comes t) told
 
 -- the other routines take turns as before

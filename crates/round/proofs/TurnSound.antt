@@ -17,9 +17,9 @@ use Rattle.round.specs.declared.Ending.{Ending}
 use Rattle.round.specs.declared.Ending.the-variants.{Ended, Rested, Missed, Continued}
 use Rattle.round.specs.declared.Position.{Position}
 use Rattle.round.specs.State.{State, withGame}
-use Rattle.round.specs.Actions.{positionOf, placed}
+use Rattle.round.specs.Actions.{positionOf}
 use Rattle.round.specs.Jumps.{sizeOf}
-use Rattle.round.specs.Rounds.{ticks, mostTicks, stageAfter, withEnd, again, ticksOf, turn}
+use Rattle.round.specs.Rounds.{ticks, mostTicks, stageAfter, withEnd, behindTurn, again, ticksOf, turn}
 use Rattle.round.proofs.Leads.{Leaves, leads, restOver}
 use Rattle.round.proofs.Acts.{Stands}
 use Rattle.round.proofs.Tries.{fresh-stands}
@@ -68,15 +68,15 @@ module _ (book : List ℕ) (a : Accepted book) (r : ℕ) (below : r < routinesOf
         elsewhere = h .fits .leftElsewhere r below;
       }
 
-  -- if it is to be continued, it may be put where it may stand, in a stage from 1 to 3
-  placed-sound :
-      (stage : ℕ) (y : Position) → routineAt (s .game) r .stage ≡ continuing → continuing ≤ stage → stage ≤ ended →
-      Stands (countsOf book) (routineSteps book r) y →
-      Sound book (withGame s (withRoutine (s .game) r (placed (routineAt (s .game) r) stage y)))
-  placed-sound stage y before low high stand =
+  -- if it is to be continued, it may be as a turn leaves it that ends where it may stand
+  sound-behind :
+      (how : Ending) (y : Position) → routineAt (s .game) r .stage ≡ continuing → Stands (countsOf book) (routineSteps book r) y →
+      Sound book (withGame s (withRoutine (s .game) r (behindTurn (routineAt (s .game) r) how y)))
+  sound-behind how y before stand =
       let f = h .fits in
       let g = s .game in
-      let x = placed (routineAt g r) stage y in
+      let x = behindTurn (routineAt g r) how y in
+      let (low, high) = stage-after how in
       game-sound h (withRoutine g r x) (routine-fits (a .laid .counts) f r x below (
         record {
           stage = omega arith;
@@ -118,9 +118,8 @@ module _ (book : List ℕ) (a : Accepted book) where
       let t = ticksOf book r s in
       let n = mostTicks (routineSteps book r) in
       let (stand, sound) = ticks-stay r below n (positionOf x) s (sound-stands book a r below s h) h in
-      let (low, high) = stage-after (t .ending) in
-      let turned = placed-sound book a r below (t .state) sound (stageAfter (t .ending)) (t .position) in
       turn-by book r s (λ p. Sound book (p .state)) (λ k. h)
       (λ k.
       let stage = turn-untouched book r s .standings r .stage ∙ going-parts (x .suspended) (x .stage) k .1 in
-      end-keeps (Sound book) (t .ending) r _ (end-sound r) (turned stage low high stand))
+      end-keeps (Sound book) (t .ending) r _ (end-sound r)
+      (sound-behind book a r below (t .state) sound (t .ending) (t .position) stage stand))

@@ -8,7 +8,6 @@ use mathlib.Core.List.{List, [], _∷_, _++_}
 use mathlib.Core.Logic.{_≢_, inl, inr}
 use native.Mathlib.Omega.{arith}
 use native.Mathlib.Decide.{ℕ-discrete}
-use lib.Dec.{eqb}
 use lib.ListN.{length}
 use lib.Seq.{getD-set-same, getD-set-other}
 use Rattle.numbers.proofs.Tests.{clash, by-flag}
@@ -17,15 +16,13 @@ use Rattle.layout.specs.Layout.{mostSignals, routinesOf, countsOf}
 use Rattle.directory.specs.Directory.{routineSteps}
 use Rattle.book.specs.Accepted.{Accepted}
 use Rattle.game.specs.Game.{continuing, blank, routineAt, withRoutine}
-use Rattle.game.specs.Game as stage
 use Rattle.orders.proofs.Stores.{same-set}
 use Rattle.round.specs.declared.Ending.{Ending}
-use Rattle.round.specs.declared.Ending.the-variants.{Ended}
+use Rattle.round.specs.declared.Ending.the-variants.{Ended, Rested, Missed, Continued}
 use Rattle.round.specs.declared.Position.{Position}
-use Rattle.round.specs.State.{State, withGame, Thing, signal, end, number, Happening, ended, isEndThere, isThere}
+use Rattle.round.specs.State.{State, withGame, Thing, signal, end, number, Happening, ended, hasEnded, isEndThere, isThere}
 use Rattle.round.specs.Counting.{howMany, Somewhere}
-use Rattle.round.specs.Actions.{placed}
-use Rattle.round.specs.Rounds.{Ticks, afterTurn, ticksOf, turn}
+use Rattle.round.specs.Rounds.{Ticks, stageAfter, behindTurn, afterTurn, ticksOf, turn}
 use Rattle.round.specs.Demand.{endsRoutine, Comes}
 use Rattle.round.proofs.Acts.{Stops}
 use Rattle.round.proofs.Coming.{Carries, all-brought, turn-untouched, ticks-carry}
@@ -33,7 +30,7 @@ use Rattle.round.proofs.Effects.{Untouched}
 use Rattle.round.proofs.Among.{somewhere-append, in-second}
 use Rattle.round.proofs.Histories.{many-append, none-of-both, none-told, end-ends}
 use Rattle.round.proofs.Standings.{SameStanding, same-standing, StillThere}
-use Rattle.round.proofs.AfterTurn.{going-parts, turn-by, placed-there}
+use Rattle.round.proofs.AfterTurn.{going-parts, turn-by, there-behind}
 use Rattle.round.proofs.Shaping.{Shape}
 use Rattle.round.proofs.TurnLaws.{moves, OthersStand, passed-same, Turned}
 use Rattle.round.proofs.Sound.{Sound}
@@ -45,7 +42,7 @@ passed-over {s = s} =
       standings = record { listed = refl; suspended = λ q. refl; others = λ q n. same-standing };
       flags = passed-same s;
       keeps = λ t h. h;
-      brings = λ t h k. absurd k;
+      brings = λ t k. absurd k;
       came = λ t h k. clash k h;
     }
 
@@ -67,41 +64,38 @@ module _
     abbrev behind : Ending → Position → State
     behind how y = afterTurn r (record { ending = how; position = y; state = u; told = told })
 
-    placed-standings : (next : ℕ) (y : Position) → OthersStand r (s .game) (withRoutine (u .game) r (placed (routineAt (u .game) r) next y))
-    placed-standings next y =
+    standings-behind :
+        (how : Ending) (y : Position) → OthersStand r (s .game) (withRoutine (u .game) r (behindTurn (routineAt (u .game) r) how y))
+    standings-behind how y =
         record {
           listed = a .listed;
           suspended = λ q. same-set (λ x. x .suspended) (u .game .routines) r _ blank refl q ∙ a .standings q .suspended;
           others =
               λ q n.
-              let e = getD-set-other (u .game .routines) r q (placed (routineAt (u .game) r) next y) blank n in
+              let e = getD-set-other (u .game .routines) r q (behindTurn (routineAt (u .game) r) how y) blank n in
               subst (λ x. SameStanding x (routineAt (s .game) q)) (sym e) (a .standings q);
         }
 
     -- a turn that does not end the routine
-    module _ (next : ℕ) (y : Position) (other : eqb next stage.ended ≡ false) (noEnd : howMany endsRoutine told ≡ 0) where
+    module _ (how : Ending) (y : Position) (other : hasEnded (stageAfter how) ≡ false) (noEnd : howMany endsRoutine told ≡ 0) where
       abbrev after : State
-      after = withGame u (withRoutine (u .game) r (placed (routineAt (u .game) r) next y))
-
-      not-ended : eqb (routineAt (u .game) r .stage) stage.ended ≡ false
-      not-ended = ap (λ n. eqb n stage.ended) (a .standings r .stage ∙ goes)
+      after = withGame u (withRoutine (u .game) r (behindTurn (routineAt (u .game) r) how y))
 
       same-there : (t : Thing) → isThere after t ≡ isThere u t
-      same-there = placed-there u r next y (other ∙ sym not-ended)
+      same-there = there-behind u r how y (other ∙ sym (ap hasEnded (a .standings r .stage ∙ goes)))
 
       resting-turned : Turned r s told after
       resting-turned =
           record {
-            standings = placed-standings next y;
+            standings = standings-behind how y;
             flags =
                 record {
                   eoi = a .eoi;
-                  few = c .few;
                   unmoved = λ h. c .unmoved (omega arith);
                   moved = λ h. c .moved (omega arith);
                 };
             keeps = λ t h. same-there t ∙ c .keeps t h;
-            brings = λ t h k. same-there t ∙ all-brought c signals noEnd t h k;
+            brings = λ t k. same-there t ∙ all-brought c signals noEnd t k;
             came = λ t h k. c .came t h (sym (same-there t) ∙ k);
           }
 
@@ -130,13 +124,13 @@ module _
         stays (end q) h = elim (ℕ-discrete q r) [ yes e ↦ rw e end-there | no n ↦ others-there q n ∙ h ]
         stays (number e k) h = h
 
-        brought : (t : Thing) → u .tooMany ≡ false → Somewhere (Comes t) told → isThere last t ≡ true
-        brought (signal e) h k = stays (signal e) (c .brings signals (signal e) refl h k)
-        brought (end q) h k = elim (somewhere-append (Comes (end q)) before (ended r ∷ []) (subst (Somewhere (Comes (end q))) history k)) [
+        brought : (t : Thing) → Somewhere (Comes t) told → isThere last t ≡ true
+        brought (signal e) k = stays (signal e) (c .brings signals (signal e) refl k)
+        brought (end q) k = elim (somewhere-append (Comes (end q)) before (ended r ∷ []) (subst (Somewhere (Comes (end q))) history k)) [
           | inl m ↦ absurd (none-told endsRoutine (Comes (end q)) end-ends before noEnd m)
           | inr (inl m) ↦ rw (end-of m) end-there
         ]
-        brought (number e n) h k = stays (number e n) (c .brings signals (number e n) refl h k)
+        brought (number e n) k = stays (number e n) (c .brings signals (number e n) refl k)
 
         -- the routine's end alone is new behind the steps
         new : (t : Thing) → isThere u t ≡ false → isThere last t ≡ true → Somewhere (Comes t) told
@@ -156,8 +150,8 @@ module _
         ending-turned : Turned r s told last
         ending-turned =
             record {
-              standings = placed-standings stage.ended y;
-              flags = record { eoi = a .eoi; few = c .few; unmoved = λ h. absurd (omega (arith, some-move)); moved = λ h. refl };
+              standings = standings-behind Ended y;
+              flags = record { eoi = a .eoi; unmoved = λ h. absurd (omega (arith, some-move)); moved = λ h. refl };
               keeps = λ t h. stays t (c .keeps t h);
               brings = brought;
               came = λ t h k. by-flag (isThere u t) (c .came t h) (λ e. new t e k);
@@ -177,9 +171,9 @@ module _
             (how : Ending) (y : Position) (final : List Happening) → Stops counts r part (shape .last) u how y final →
             told ≡ shape .before ++ final → Turned r s told (behind how y)
         by-stop how y final Stops.ends history = ending-turned y (shape .before) (shape .noEnd) history below
-        by-stop how y final Stops.rests history = resting-turned stage.rested y refl (none-ends final history refl)
-        by-stop how y final (Stops.misses asks m e) history = resting-turned stage.rested y refl (none-ends final history refl)
-        by-stop how y final (Stops.continues asks m e) history = resting-turned continuing y refl (none-ends final history refl)
+        by-stop how y final Stops.rests history = resting-turned Rested y refl (none-ends final history refl)
+        by-stop how y final (Stops.misses asks m e) history = resting-turned Missed y refl (none-ends final history refl)
+        by-stop how y final (Stops.continues asks m e) history = resting-turned Continued y refl (none-ends final history refl)
 
 -- a turn is passed over, and then nothing changes, or taken
 module _ (book : List ℕ) (a : Accepted book) where

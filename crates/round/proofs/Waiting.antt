@@ -28,7 +28,6 @@ passed-then s u v a b x y =
     let e = moves-append a b in
     record {
       eoi = y .eoi ∙ x .eoi;
-      few = λ f. x .few (y .few f);
       unmoved = λ m. y .unmoved (omega arith) ∙ x .unmoved (omega arith);
       moved = λ m. elim (ℕ-discrete (moves b) 0) [
         | yes z ↦ y .unmoved z ∙ x .moved (omega arith)
@@ -47,7 +46,7 @@ module _ {book : List ℕ} {Listed : ℕ → Type 0} {Ok : State → Type 0} (la
   stays-passed =
       pass-along Passed passed-same passed-then book Ok Listed (laws .stays) (λ r s l k. laws .turned r s l k .flags)
 
-  pub passed : (l : List ℕ) → All Listed l → (s : State) → Ok s → Passed s (pass book l s .told) (pass book l s .state)
+  passed : (l : List ℕ) → All Listed l → (s : State) → Ok s → Passed s (pass book l s .told) (pass book l s .state)
   passed l a s k = stays-passed l a s k .1
 
   pub pass-stays : (l : List ℕ) → All Listed l → (s : State) → Ok s → Ok (pass book l s .state)

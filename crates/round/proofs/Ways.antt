@@ -18,8 +18,8 @@ use Rattle.round.specs.declared.Ending.{Ending}
 use Rattle.round.specs.declared.Ending.the-variants.{Ended, Rested, Missed, Continued}
 use Rattle.round.specs.declared.Position.{Position}
 use Rattle.round.specs.State.{State, Thing, Happening, missing, completed}
-use Rattle.round.specs.Actions.{positionOf, placed, atStart}
-use Rattle.round.specs.Rounds.{stageAfter, afterTurn, ticksOf, turn, historyOf}
+use Rattle.round.specs.Actions.{positionOf, atStart}
+use Rattle.round.specs.Rounds.{behindTurn, afterTurn, ticksOf, turn, historyOf}
 use Rattle.round.specs.Replay.{placeAfter}
 use Rattle.round.specs.Whole.{LeftAt, Plays}
 use Rattle.round.proofs.TurnLaws.{takesTurn, isGoing}
@@ -28,10 +28,10 @@ use Rattle.round.proofs.Standings.{SameStanding, same-standing}
 use Rattle.round.proofs.Parsed.{size-same}
 use Rattle.round.proofs.Sound.{Sound}
 use Rattle.round.proofs.Coming.{turn-untouched}
-use Rattle.round.proofs.AfterTurn.{going-parts, after-few, turn-by, routine-after}
+use Rattle.round.proofs.AfterTurn.{going-parts, turn-by, routine-after}
 use Rattle.round.proofs.Actions.{at-start-positions}
 use Rattle.round.proofs.After.{back, own-and-others}
-use Rattle.round.proofs.Demand.{none-lost, none-going}
+use Rattle.round.proofs.Demand.{none-going}
 use Rattle.round.proofs.FirstTurn.{due-first}
 use Rattle.round.proofs.Replays.{contentsOf, Makes, makes-same, makes-both, turn-makes}
 use Rattle.round.proofs.Untold.{turn-untold}
@@ -65,21 +65,20 @@ module _ (book : List ℕ) (a : Accepted book) (g : Game) (f : Fits book g) (r :
   abbrev Walks : State → List Happening → State → Type 0
   Walks s told u =
       Makes book s told u ×
-      (u .tooMany ≡ false → (before : List Happening) (p : ℕ) → Stands before p s →
+      ((before : List Happening) (p : ℕ) → Stands before p s →
       InPlace book r told (contentsOf s) p × Stands (before ++ told) (placeAfter book r told (contentsOf s) p) u)
 
   walks-none : (s : State) → Walks s [] s
   unfolding placeAfter
-  walks-none s = (makes-same book s, λ few before p stand. (tt, stands-then before [] same-standing stand))
+  walks-none s = (makes-same book s, λ before p stand. (tt, stands-then before [] same-standing stand))
 
   walks-both : (s u v : State) (b c : List Happening) → Walks s b u → Walks u c v → Walks s (b ++ c) v
   walks-both s u v b c (m, first) (n, second) = (
     makes-both book s u v b c m n,
-    λ few before p stand.
-        let here = n few .0 in
-        let (one, between) = first here before p stand in
-        let (two, last) = second few (before ++ b) (placeAfter book r b (contentsOf s) p) between in
-        let (all, to) = walked book r b c (contentsOf s) (contentsOf u) p _ (m here .1) refl one two in
+    λ before p stand.
+        let (one, between) = first before p stand in
+        let (two, last) = second (before ++ b) (placeAfter book r b (contentsOf s) p) between in
+        let (all, to) = walked book r b c (contentsOf s) (contentsOf u) p _ m refl one two in
         (all, rw (to, ← (append-assoc before b c)) last),
   )
 
@@ -89,7 +88,7 @@ module _ (book : List ℕ) (a : Accepted book) (g : Game) (f : Fits book g) (r :
       Walks s (turn book q s .told) (turn book q s .state)
   walks-aside q s other same = (
     turn-makes book q s,
-    λ few before p stand.
+    λ before p stand.
         let told = turn book q s .told in
         let (in-place, still) = untold-still book r told (turn-untold book r q other s) (contentsOf s) p in
         (in-place, rw still (stands-then before told same stand)),
@@ -99,7 +98,7 @@ module _ (book : List ℕ) (a : Accepted book) (g : Game) (f : Fits book g) (r :
   module _ (below : r < routinesOf book) where
     stands-halted :
         (b c : List Happening) (how : Ending) (y : Position) (x : Routine) (p : ℕ) → x .suspended ≡ false →
-        Halted book r a below c p how y → StandsAs (b ++ c) p (placed x (stageAfter how) y)
+        Halted book r a below c p how y → StandsAs (b ++ c) p (behindTurn x how y)
     stands-halted b c Ended y x p out (l, e) = (λ h. clash h (rw or-true), λ d h. LeftAt.ends refl l e)
     stands-halted b c Rested y x p out (o, e) = (λ h. clash h (rw or-true), λ d h. LeftAt.rests refl o e)
     stands-halted b c Missed y x p out (t, w, e) =
@@ -115,18 +114,17 @@ module _ (book : List ℕ) (a : Accepted book) (g : Game) (f : Fits book g) (r :
 
     -- a turn that it takes
     came-on :
-        (s : State) → Sound book s → isGoing s r ≡ true → ticksOf book r s .state .tooMany ≡ false →
-        (before : List Happening) (p : ℕ) → Stands before p s →
+        (s : State) → Sound book s → isGoing s r ≡ true → (before : List Happening) (p : ℕ) → Stands before p s →
         let t = ticksOf book r s in
         InPlace book r (t .told) (contentsOf s) p ×
         Stands (before ++ t .told) (placeAfter book r (t .told) (contentsOf s) p) (afterTurn r t)
-    came-on s ok going few before p (on, off) =
+    came-on s ok going before p (on, off) =
         let x = routineAt (s .game) r in
         let t = ticksOf book r s in
         let standing = turn-untouched book r s .standings r in
         let out = standing .suspended ∙ going-parts (x .suspended) (x .stage) going .0 in
         let inside = ok .fits .placesInRange r below in
-        let own = own-ticks book r a below _ (positionOf x) s .1 few (omega (arith, inside, size-same book a r below)) in
+        let own = own-ticks book r a below _ (positionOf x) s .1 (omega (arith, inside, size-same book a r below)) in
         let (in-place, stop) = subst (Came s) (on going) own in
         let left = stands-halted before (t .told) (t .ending) (t .position) (routineAt (t .state .game) r) _ out stop in
         (in-place, rw (routine-after r s t standing going) left)
@@ -136,9 +134,9 @@ module _ (book : List ℕ) (a : Accepted book) (g : Game) (f : Fits book g) (r :
       turn-makes book r s,
       turn-by book r s
           (λ d.
-          d .state .tooMany ≡ false → (before : List Happening) (p : ℕ) → Stands before p s →
+          (before : List Happening) (p : ℕ) → Stands before p s →
           InPlace book r (d .told) (contentsOf s) p × Stands (before ++ d .told) (placeAfter book r (d .told) (contentsOf s) p) (d .state))
-          (λ h. walks-none s .1) (λ h few. came-on s ok h (after-few r (ticksOf book r s) few)),
+          (λ h. walks-none s .1) (came-on s ok),
     )
 
   walks-round : Walks (atStart g) (historyOf book g) (back book g)
@@ -159,7 +157,7 @@ module _ (book : List ℕ) (a : Accepted book) (g : Game) (f : Fits book g) (r :
       InPlace book r (historyOf book g) (g .counters, []) first ×
       Stands (historyOf book g) (placeAfter book r (historyOf book g) (g .counters, []) first) (back book g)
   unfolding atStart
-  all = walks-round .1 (none-lost book a g f) [] first starts
+  all = walks-round .1 [] first starts
 
   at-place :
       (h : Happening) (p q : ℕ) → (h ≡ completed r q) ⊎ ((t : Thing) × (h ≡ missing r q t)) → Here book r h p → p ≡ q

@@ -31,5 +31,5 @@ told-whole book a g f =
       stood = λ before after h r. stood book a g f r before after h;
       left = left-at book a g f;
       untold = untold book a g f;
-      contents = contents-made book a g f;
+      contents = contents-made book g;
     }

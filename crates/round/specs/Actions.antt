@@ -102,7 +102,6 @@ atStart g =
       endSignals = map (λ x. x .stopping) (g .routines);
       -- 8. No numbers are given yet.
       numbers = [];
-      tooMany = false;
       -- "The move flag is clear when a round's first pass begins"
       moved = false;
       -- 7.

@@ -1,6 +1,5 @@
 -- What playing a round answers: document 01, "Turned down because of the input" and "Turned down because of the state".
 use Prim.Native.Nat.{ℕ, _*_}
-use mathlib.Core.Bool.{not}
 use mathlib.Core.List.{List, [], _∷_, _++_}
 use lib.Dec.{eqb, leb}
 use lib.ListN.{length, drop}
@@ -50,9 +49,12 @@ spaceFor book = numbersPerMark * markSteps (stepsPart book) (stepsOf book)
 abbrev pub spaceVerdict : List ℕ → List ℤ → Verdict
 spaceVerdict book buffer = unless (leb (spaceFor book) (length buffer)) (refused 10 0)
 
--- 11, once the round is played
+-- 11, once the round is played: "More than 1,024 numbers are given in one round."
+abbrev pub mostNumbers : ℕ
+mostNumbers = 1024
+
 abbrev pub numbersVerdict : Round → Verdict
-numbersVerdict p = unless (not (p .played .state .tooMany)) (refused 11 0)
+numbersVerdict p = unless (leb (length (p .played .state .numbers)) mostNumbers) (refused 11 0)
 
 -- "a round checks 1 to 7, then 9, 10, 11"
 unfoldable pub roundVerdict : List ℕ → Game → List ℤ → Verdict

@@ -10,9 +10,8 @@ use Rattle.directory.specs.Directory.{routineSteps}
 use Rattle.game.specs.declared.Game.{Game}
 use Rattle.round.specs.State.{Happening, gave, ended, missing, past, marked, completed}
 use Rattle.round.specs.Counting.{stepsIn, howMany}
-use Rattle.round.specs.Ticks.{mostNumbers}
 use Rattle.round.specs.Rounds.{listedIn, historyOf}
-use Rattle.round.specs.Answers.{opMark, marksIn, numbersPerMark, spaceFor}
+use Rattle.round.specs.Answers.{opMark, marksIn, numbersPerMark, spaceFor, mostNumbers}
 use Rattle.round.specs.Tells.{numbersGiven}
 use Rattle.round.specs.Demand.{isSignalStep, givesSignal}
 

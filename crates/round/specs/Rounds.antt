@@ -9,6 +9,7 @@ use Rattle.numbers.specs.Choice.{if_then_else_}
 use Rattle.kinds.specs.declared.Counts.{Counts}
 use Rattle.layout.specs.Layout.{mostRoutines, mostSteps, countsOf}
 use Rattle.directory.specs.Directory.{routineSteps}
+use Rattle.game.specs.declared.Routine.{Routine}
 use Rattle.game.specs.declared.Game.{Game}
 use Rattle.lines.specs.Lines.{entriesOf}
 use Rattle.game.specs.Game.{continuing, rested, ended, routineAt, withRoutine}
@@ -66,11 +67,15 @@ withEnd Rested r s = s
 withEnd Missed r s = s
 withEnd Continued r s = s
 
+-- a routine behind a turn that ends so and leaves it at this position
+abbrev pub behindTurn : Routine → Ending → Position → Routine
+behindTurn x how y = placed x (stageAfter how) y
+
 -- the state behind a turn of routine r
 abbrev pub afterTurn : ℕ → Ticks → State
 afterTurn r t =
     let g = t .state .game in
-    withEnd (t .ending) r (withGame (t .state) (withRoutine g r (placed (routineAt g r) (stageAfter (t .ending)) (t .position))))
+    withEnd (t .ending) r (withGame (t .state) (withRoutine g r (behindTurn (routineAt g r) (t .ending) (t .position))))
 
 -- what a pass does with one listed routine
 pub data Turn : Type 0 where

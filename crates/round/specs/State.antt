@@ -16,9 +16,8 @@ pub record State : Type 0 where
   -- the signals that are present, and the end signals, a flag for each routine (together the paper's events; term(t) is an end signal)
   pub present : List Bool
   pub endSignals : List Bool
-  -- the numbers given so far, in order, each behind its signal (values), and whether more were given than are kept
+  -- the numbers given so far, in order, each behind its signal (values)
   pub numbers : List (ℕ × ℤ)
-  pub tooMany : Bool
   -- move and eoi
   pub moved : Bool
   pub eoi : Bool
@@ -31,7 +30,6 @@ withGame s g =
       present = s .present;
       endSignals = s .endSignals;
       numbers = s .numbers;
-      tooMany = s .tooMany;
       moved = s .moved;
       eoi = s .eoi;
     }
@@ -43,7 +41,6 @@ withPresent s l =
       present = l;
       endSignals = s .endSignals;
       numbers = s .numbers;
-      tooMany = s .tooMany;
       moved = s .moved;
       eoi = s .eoi;
     }
@@ -55,19 +52,17 @@ withEndSignals s l =
       present = s .present;
       endSignals = l;
       numbers = s .numbers;
-      tooMany = s .tooMany;
       moved = s .moved;
       eoi = s .eoi;
     }
 
-abbrev pub withNumbers : State → List (ℕ × ℤ) → Bool → State
-withNumbers s l tooMany =
+abbrev pub withNumbers : State → List (ℕ × ℤ) → State
+withNumbers s l =
     record {
       game = s .game;
       present = s .present;
       endSignals = s .endSignals;
       numbers = l;
-      tooMany = tooMany;
       moved = s .moved;
       eoi = s .eoi;
     }
@@ -79,7 +74,6 @@ withMoves s moved eoi =
       present = s .present;
       endSignals = s .endSignals;
       numbers = s .numbers;
-      tooMany = s .tooMany;
       moved = moved;
       eoi = eoi;
     }
@@ -114,10 +108,14 @@ numbersOf s e = numbersWith e (s .numbers)
 abbrev pub numberAt : State → ℕ → ℕ → ℤ
 numberAt s e k = getD (numbersOf s e) (k - 1) (pos 0)
 
+-- a routine in this stage has ended, as a join asks: "Only stage 3 is TERM."
+abbrev pub hasEnded : ℕ → Bool
+hasEnded k = eqb k stage.ended
+
 -- Routine r has ended, or its end signal is present: what a join asks, by rules 17, 18, 28 and 29.
 -- "A join left waiting asks again at every try, by rules 17 and 28, whether the routine has ended."
 unfoldable pub isEndThere : State → ℕ → Bool
-isEndThere s r = eqb (routineAt (s .game) r .stage) stage.ended || getD (s .endSignals) r false
+isEndThere s r = hasEnded (routineAt (s .game) r .stage) || getD (s .endSignals) r false
 
 unfoldable pub isThere : State → Thing → Bool
 isThere s (signal e) = getD (s .present) e false

@@ -13,9 +13,8 @@ use Rattle.game.specs.declared.Game.{Game}
 use Rattle.fitting.specs.Fits.{Fits}
 use Rattle.round.specs.State.{Happening, gave, ended, missing, past, marked, completed}
 use Rattle.round.specs.Counting.{howMany}
-use Rattle.round.specs.Ticks.{mostNumbers}
 use Rattle.round.specs.Rounds.{round}
-use Rattle.round.specs.Answers.{spaceFor}
+use Rattle.round.specs.Answers.{spaceFor, mostNumbers}
 
 -- 11. "More than 1,024 numbers are given in one round.": how many were given, among what happened; a signal may be given with none
 abbrev pub givesNumber : Happening → Bool

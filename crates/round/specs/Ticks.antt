@@ -2,7 +2,7 @@
 use Prim.Native.Nat.{ℕ, _+_, _-_}
 use mathlib.Core.Bool.{true, false, _&&_, not}
 use mathlib.Core.List.{List, [], _∷_, _++_}
-use lib.Dec.{eqb, ltb}
+use lib.Dec.{eqb}
 use lib.ListN.{length, set}
 use lib.IntN.{ℤ}
 use Rattle.numbers.specs.Choice.{if_then_else_}
@@ -135,20 +135,13 @@ module _ (r : ℕ) (steps : List ℕ) (x : Position) (s : State) where
 unfoldable pub tick : Counts → ℕ → List ℕ → Position → State → Tick
 tick counts r steps x s = tickAt r steps x s (stepAt counts steps (x .place))
 
--- 11. "More than 1,024 numbers are given in one round."
-abbrev pub mostNumbers : ℕ
-mostNumbers = 1024
-
 -- rule 12 "sets the flag each time"
 abbrev pub given : State → ℕ → State
 given s e = withMoves (withPresent s (set (s .present) e true)) true (s .eoi)
 
--- rule 13; one number too many is not kept
+-- rule 13
 abbrev pub givenNumber : State → ℕ → ℤ → State
-givenNumber s e v =
-    if ltb (length (s .numbers)) mostNumbers
-    then withNumbers (given s e) (s .numbers ++ ((e, v) ∷ [])) (s .tooMany)
-    else withNumbers (given s e) (s .numbers) true
+givenNumber s e v = withNumbers (given s e) (s .numbers ++ ((e, v) ∷ []))
 
 -- the state behind an effect; a mark is told and changes nothing
 unfoldable pub effectOn : Effect → State → State

@@ -16,8 +16,8 @@ use Rattle.round.specs.Actions.{kept, each, inStage1, inStage4, withoutOrders}
 use Rattle.round.proofs.Actions.{each-keeps, startsOf, joinedOf, first, leaving, staying, halted, last, field-same}
 use Rattle.round.proofs.Actions as action
 use Rattle.rules.specs.Instructions.{CONT}
-use Rattle.rules.specs.Schedulers.{Stage, notStarted, is, stopped, has, isTerminated}
-use Rattle.rules.specs.Instants.{only, allAt, isUnderWay, noFlags}
+use Rattle.rules.specs.Schedulers.{Stage, notStarted, is, stopped, has}
+use Rattle.rules.specs.Instants.{only, allAt, isUnderWay, isTerminated, noFlags}
 use Rattle.rules.proofs.Stages.{seen, terminated-stage, under-way-stage}
 
 zip-maps :

@@ -6,13 +6,13 @@ use mathlib.Core.Bool.{Bool, true, false, _&&_, not, false≢true}
 use mathlib.Core.List.{List, [], _∷_, _++_, map}
 use native.Mathlib.Omega.{arith}
 use borrow.Author.Tests.{not-true}
-use lib.Dec.{eqb, ltb}
-use lib.ListN.{length, set}
+use lib.Dec.{eqb}
+use lib.ListN.{set}
 use lib.Seq.{map-set-same}
 use lib.IntN.{ℤ}
 use Rattle.numbers.specs.Choice.{if_then_else_}
 use Rattle.numbers.specs.declared.Sum.{Sum}
-use Rattle.numbers.proofs.Tests.{clash, and-both, by-test}
+use Rattle.numbers.proofs.Tests.{and-both}
 use Rattle.layout.specs.Layout.{mostRoutines}
 use Rattle.game.specs.declared.Routine.{Routine}
 use Rattle.lines.specs.Lines.{isIn, pushed, entriesOf}
@@ -24,7 +24,7 @@ use Rattle.fitting.proofs.Room.{room}
 use Rattle.orders.proofs.Stores.{map-set}
 use Rattle.round.specs.declared.Effect.the-variants.{Nothing, Mark, Put, Add, Give, GiveNumber, Start, Stop, Suspend, Resume}
 use Rattle.round.specs.State.{State, withGame}
-use Rattle.round.specs.Ticks.{effectOn, mostNumbers}
+use Rattle.round.specs.Ticks.{effectOn}
 use Rattle.round.proofs.Entries.{pushed-entries}
 use Rattle.rules.specs.Instructions.{signal}
 use Rattle.rules.specs.Schedulers.{Stage, Scheduler, isAmong, statusOf, isNotStarted, moved, withEvent, withValue, put}
@@ -73,17 +73,10 @@ module _ (s : State) (ms : Marks) where
   unfolding effectOn view
   give-view e = refl
 
-  -- where no number was too many, there was room for this one
   pub give-number-view :
-      (e : ℕ) (v : ℤ) → effectOn (GiveNumber e v) s .tooMany ≡ false →
-      view (effectOn (GiveNumber e v) s) ms ≡ withValue e v (moved (withEvent (signal e) (view s ms)))
+      (e : ℕ) (v : ℤ) → view (effectOn (GiveNumber e v) s) ms ≡ withValue e v (moved (withEvent (signal e) (view s ms)))
   unfolding effectOn view
-  give-number-view e v h =
-      by-test
-      (λ (u : State). u .tooMany ≡ false → view u ms ≡ withValue e v (moved (withEvent (signal e) (view s ms))))
-      (ltb (length (s .numbers)) mostNumbers)
-      (λ room none. refl) (λ full none. clash refl none)
-      h
+  give-number-view e v = refl
 
 -- routine t of a state gives way to another one
 module _ (s : State) (t : ℕ) (x : Routine) where

@@ -73,7 +73,7 @@ module _ (counts : Counts) (r : ℕ) (steps : List ℕ) where
   abbrev ActByRule : Kind → Position → State → Marks → Act → Marks → Type 0
   ActByRule k x s ms (Goes q e) new =
       (q ≡ suc (x .place))
-      × (HasRoom (counts .routines) s → HasRoom (counts .routines) (effectOn e s) →
+      × (HasRoom (counts .routines) s →
       ⟨ instruction r x k & view s ms ⟩⟶[ TERM ]⟨ nothing & view (effectOn e s) (ms ++ new) ⟩)
   ActByRule k x s ms (Halts h y) new = Halted r k x s ms h y
 
@@ -84,13 +84,13 @@ module _ (counts : Counts) (r : ℕ) (steps : List ℕ) where
     -- the turn goes on behind an effect, with no mark
     changes :
         (e : Effect) {σ : Scheduler} →
-        (HasRoom (counts .routines) s → HasRoom (counts .routines) (effectOn e s) → view (effectOn e s) ms ≡ σ) →
+        (HasRoom (counts .routines) s → view (effectOn e s) ms ≡ σ) →
         ⟨ instruction r x k & view s ms ⟩⟶[ TERM ]⟨ nothing & σ ⟩ →
         ActByRule k x s ms (onward r steps x s e) []
-    changes e same h = (add-one (x .place), λ f g. rw (append-nil, same f g) h)
+    changes e same h = (add-one (x .place), λ f. rw (append-nil, same f) h)
 
     passes : Idle s ms (instruction r x k) TERM nothing → ActByRule k x s ms (onward r steps x s Nothing) []
-    passes h = changes Nothing (λ f g. nothing-view s ms) h
+    passes h = changes Nothing (λ f. nothing-view s ms) h
 
     -- a try, by what its thing's test says
     attempts :
@@ -145,7 +145,7 @@ module _ (counts : Counts) (r : ℕ) (steps : List ℕ) where
     unfolding view
     reads-number e c k =
         attempts (kind.Read e c k) x s ms (number e k) (Put c (numberAt s e k)) (fresh (x .place + 1))
-        (λ h. changes (kind.Read e c k) x s ms (Put c (numberAt s e k)) (λ f g. taken e c k) (rule30 (number-given s ms e k h)))
+        (λ h. changes (kind.Read e c k) x s ms (Put c (numberAt s e k)) (λ f. taken e c k) (rule30 (number-given s ms e k h)))
         (λ h o. leaves (rule32 (number-missing s ms e k h) o) coop-term (ap fresh (add-one (x .place))))
         (λ h o. stays (rule31 (number-missing s ms e k h) o) cont-term refl)
 
@@ -153,19 +153,19 @@ module _ (counts : Counts) (r : ℕ) (steps : List ℕ) where
       (k : Kind) → Leaf (formOf k) → FieldsRight counts k → counts .routines ≤ mostRoutines →
       (x : Position) (s : State) (ms : Marks) → ByRule k x s ms (tickOf r steps x s k)
   unfolding tickOf view marksIn
-  leaf-by-rule (kind.Mark n) l b few x s ms = (add-one (x .place), λ f g. rw mark-view (rule1 writes))
-  leaf-by-rule (kind.Set c n) l b few x s ms = changes (kind.Set c n) x s ms (Put c n) (λ f g. count-view s ms c n) (rule1 becomes)
+  leaf-by-rule (kind.Mark n) l b few x s ms = (add-one (x .place), λ f. rw mark-view (rule1 writes))
+  leaf-by-rule (kind.Set c n) l b few x s ms = changes (kind.Set c n) x s ms (Put c n) (λ f. count-view s ms c n) (rule1 becomes)
   leaf-by-rule (kind.Add c n) l b few x s ms =
       let v = counterAt (s .game) c in
-      changes (kind.Add c n) x s ms (Add c (sumOf v n)) (λ f g. add-view s ms c (sumOf v n)) (rule1 (adds (adds-up v n)))
+      changes (kind.Add c n) x s ms (Add c (sumOf v n)) (λ f. add-view s ms c (sumOf v n)) (rule1 (adds (adds-up v n)))
   leaf-by-rule (kind.Take c d) l b few x s ms =
       let v = counterAt (s .game) c in
       let n = counterAt (s .game) d in
-      changes (kind.Take c d) x s ms (Add c (sumOf v n)) (λ f g. add-view s ms c (sumOf v n)) (rule1 (takes (adds-up v n)))
-  leaf-by-rule (kind.Signal e) l b few x s ms = changes (kind.Signal e) x s ms (Give e) (λ f g. give-view s ms e) rule12
+      changes (kind.Take c d) x s ms (Add c (sumOf v n)) (λ f. add-view s ms c (sumOf v n)) (rule1 (takes (adds-up v n)))
+  leaf-by-rule (kind.Signal e) l b few x s ms = changes (kind.Signal e) x s ms (Give e) (λ f. give-view s ms e) rule12
   leaf-by-rule (kind.SignalNumber e c) l b few x s ms =
       let v = counterAt (s .game) c in
-      changes (kind.SignalNumber e c) x s ms (GiveNumber e v) (λ f g. give-number-view s ms e v (g .few)) rule13
+      changes (kind.SignalNumber e c) x s ms (GiveNumber e v) (λ f. give-number-view s ms e v) rule13
   leaf-by-rule kind.Rest l b few x s ms = leaves rule11 coop-term (ap fresh (add-one (x .place)))
   leaf-by-rule (kind.RestFor n) l b few x s ms = rests-for x s ms n
   leaf-by-rule (kind.Wait e) l b few x s ms = waiting (kind.Wait e) x s ms (signal e) (fresh (x .place)) (tried-wait s ms e) refl
@@ -176,11 +176,11 @@ module _ (counts : Counts) (r : ℕ) (steps : List ℕ) where
       waiting-for (kind.JoinFor t n) x s ms (end t) (countAt x n) (λ z. rule28 (inr z)) (tried-join-for s ms t (countAt x n))
   leaf-by-rule (kind.Read e c k) l b few x s ms = reads-number x s ms e c k
   leaf-by-rule (kind.Start t) l b few x s ms =
-      changes (kind.Start t) x s ms (Start t) (λ f g. start-view s ms t f b few) rule19
-  leaf-by-rule (kind.Stop t) l b few x s ms = changes (kind.Stop t) x s ms (Stop t) (λ f g. stop-view s ms t) rule20
+      changes (kind.Start t) x s ms (Start t) (λ f. start-view s ms t f b few) rule19
+  leaf-by-rule (kind.Stop t) l b few x s ms = changes (kind.Stop t) x s ms (Stop t) (λ f. stop-view s ms t) rule20
   leaf-by-rule (kind.Suspend t) l b few x s ms =
-      changes (kind.Suspend t) x s ms (Suspend t) (λ f g. suspend-view s ms t) rule21
-  leaf-by-rule (kind.Resume t) l b few x s ms = changes (kind.Resume t) x s ms (Resume t) (λ f g. resume-view s ms t) rule22
+      changes (kind.Suspend t) x s ms (Suspend t) (λ f. suspend-view s ms t) rule21
+  leaf-by-rule (kind.Resume t) l b few x s ms = changes (kind.Resume t) x s ms (Resume t) (λ f. resume-view s ms t) rule22
   leaf-by-rule (kind.If c relation n) l b few x s ms = no-leaf l (λ e. cc) (λ e. cc)
   leaf-by-rule kind.Else l b few x s ms = no-leaf l (λ e. cc) (λ e. cc)
   leaf-by-rule (kind.While c relation n) l b few x s ms = no-leaf l (λ e. cc) (λ e. cc)

@@ -18,7 +18,7 @@ use Rattle.rules.specs.Instructions.{Status, TERM, Instruction, nothing}
 use Rattle.rules.specs.Rules.{⟨_&_⟩⟶[_]⟨_&_⟩}
 use Rattle.rules.specs.Residual.{instruction, _⇝_, same}
 use Rattle.rules.specs.View.{view}
-use Rattle.rules.proofs.Walks.{Marks, HasRoom, Ends, halts, goes, statusAfter}
+use Rattle.rules.proofs.Walks.{Marks, Ends, halts, goes, statusAfter}
 use Rattle.rules.proofs.Leaves.{Halted, stays, leaves, ByRule}
 
 abbrev pub Run : Instruction → State → Marks → Status → Instruction → State → Marks → Type 0
@@ -56,17 +56,13 @@ module _ (counts : Counts) (r : ℕ) (steps : List ℕ) (h : Ending) (y : Positi
         OfBlock i left p e n s ms
 
 module _ {counts : Counts} {r : ℕ} {steps : List ℕ} {h : Ending} {y : Position} {u : State} {us : Marks} where
-  room-now : {n : ℕ} {x : Position} {s : State} {ms : Marks} → Ends counts r steps h y u us n x s ms → HasRoom (counts .routines) s
-  room-now (halts f e) = f
-  room-now (goes f e t) = f
-
   -- a step that changes nothing, and leads to q
   pub onward :
       {n q : ℕ} {x : Position} {s : State} {ms : Marks} →
       Ends counts r steps h y u us n x s ms → tick counts r steps x s ≡ telling (Goes q Nothing) [] →
       (m : ℕ) × (m < n) × Ends counts r steps h y u us m (fresh q) s ms
   unfolding effectOn marksIn
-  onward (halts f e) g =
+  onward (halts e) g =
       let same = ap (λ (a : Tick). a .act) (sym e ∙ g) in
       let z : _≡_ {A = ℕ} 0 1 = cc in
       absurd (omega arith)
@@ -89,10 +85,10 @@ module _ {counts : Counts} {r : ℕ} {steps : List ℕ} {h : Ending} {y : Positi
       {p n : ℕ} (k : Kind) {x : Position} {s : State} {ms : Marks} →
       x .place ≡ p → ByRule counts r steps k x s ms (tick counts r steps x s) → Ends counts r steps h y u us n x s ms →
       OfStep counts r steps h y u us (instruction r x k) (λ z. instruction r z k) p (suc p) n s ms
-  leaf-ends k {x} l by (halts f e) = leaf-halts l (subst (λ (a : Tick). ByRule counts r steps k x u us a) e by)
+  leaf-ends k {x} l by (halts e) = leaf-halts l (subst (λ (a : Tick). ByRule counts r steps k x u us a) e by)
   leaf-ends k {x} {s} {ms} l by (goes {n = n} {e = c} {told = told} f e t) =
       let rule = subst (λ (a : Tick). ByRule counts r steps k x s ms a) e by in
-      over n (effectOn c s) (ms ++ marksIn told) (rule .1 f (room-now t)) (omega arith) (rw (rule .0, l) at t)
+      over n (effectOn c s) (ms ++ marksIn told) (rule .1 f) (omega arith) (rw (rule .0, l) at t)
 
   -- for another instruction that runs as i does, in a turn at least as long
   pub block-as :

@@ -34,10 +34,10 @@ use Rattle.round.proofs.TurnLaws.{isGoing}
 use Rattle.round.proofs.Parsed.{size-same}
 use Rattle.round.proofs.Lasting.{routine-in-time}
 use Rattle.round.proofs.Coming.{turn-untouched}
-use Rattle.round.proofs.AfterTurn.{going-parts, after-few, position-after, turn-by, turn-taken}
+use Rattle.round.proofs.AfterTurn.{going-parts, position-after, turn-by, turn-taken}
 use Rattle.round.proofs.TurnSound.{turn-sound, again-sound}
 use Rattle.round.proofs.Turned.{turn-turned}
-use Rattle.round.proofs.After.{pass-keeps, instant-keeps}
+use Rattle.round.proofs.After.{pass-keeps}
 use Rattle.round.proofs.Waiting.{done-append}
 use Rattle.rules.specs.Instructions.{CONT, Instruction}
 use Rattle.rules.specs.Schedulers.{is, Scheduler, has, statusOf}
@@ -122,10 +122,10 @@ module _ (book : List ℕ) (a : Accepted book) where
             in
             (run, rw append-nil (rule33 why), stand)
 
-        turn-taken-rule : isGoing s r ≡ true → afterTurn r t .tooMany ≡ false → TurnRule book a r run s ms (taken r t)
-        turn-taken-rule going few =
+        turn-taken-rule : isGoing s r ≡ true → TurnRule book a r run s ms (taken r t)
+        turn-taken-rule going =
             let time = routine-in-time book a r l (positionOf x) s in
-            let (n, ends) = ends-of book a r (mostTicks steps) (positionOf x) s time sound (after-few r t few) .1 ms in
+            let (n, ends) = ends-of book a r (mostTicks steps) (positionOf x) s time sound ms in
             let inside : x .place ≤ sizeOf steps = omega (arith, sound .fits .placesInRange r l, size-same book a r l) in
             let (i, rule, w) = routine-by-rules book a r l n (positionOf x) s ms (run r) inside (stand r l) ends in
             let (unsuspended, stage) = going-parts (x .suspended) (x .stage) going in
@@ -135,26 +135,22 @@ module _ (book : List ℕ) (a : Accepted book) where
               stands-after i going w,
             )
 
-        pub turn-by-rules : turn book r s .state .tooMany ≡ false → TurnRule book a r run s ms (turn book r s)
-        turn-by-rules =
-            turn-by book r s (λ d. d .state .tooMany ≡ false → TurnRule book a r run s ms d) (λ h few. turn-over-rule h) turn-taken-rule
+        pub turn-by-rules : TurnRule book a r run s ms (turn book r s)
+        turn-by-rules = turn-by book r s (TurnRule book a r run s ms) turn-over-rule turn-taken-rule
 
   -- some routines in turn
   turns-by-rules :
       (rs : List ℕ) → All (λ r. r < R) rs → (run : ℕ → Instruction) (s : State) (ms : Marks) → Stands book a run (s .game) →
       Sound book s → let d = pass book rs s in
-      d .state .tooMany ≡ false →
       (to : ℕ → Instruction) × InTurn rs run (view s ms) (allDone (d .turns)) to (view (d .state) (ms ++ marksIn (d .told)))
       × Stands book a to (d .state .game)
   unfolding pass
-  turns-by-rules [] b run s ms stand sound few = unfold allDone marksIn in (run, rw append-nil none, stand)
-  turns-by-rules (r ∷ rs) b run s ms stand sound few =
+  turns-by-rules [] b run s ms stand sound = unfold allDone marksIn in (run, rw append-nil none, stand)
+  turns-by-rules (r ∷ rs) b run s ms stand sound =
       let first = turn book r s in
       let sound-first = turn-sound book a r s (b .0) sound in
-      let few-first = pass-keeps book a rs (b .1) (first .state) sound-first .1 .few few in
-      let (to, rule, stand-first) = turn-by-rules r (b .0) run s stand sound ms few-first in
-      let (last, others, stand-last) =
-      turns-by-rules rs (b .1) to (first .state) (ms ++ marksIn (first .told)) stand-first sound-first few in
+      let (to, rule, stand-first) = turn-by-rules r (b .0) run s stand sound ms in
+      let (last, others, stand-last) = turns-by-rules rs (b .1) to (first .state) (ms ++ marksIn (first .told)) stand-first sound-first in
       (last, rw (done-append, ← marks-then) (next rule others), stand-last)
 
   -- the routines that the scheduler has in actual
@@ -163,34 +159,30 @@ module _ (book : List ℕ) (a : Accepted book) where
 
   pub pass-by-rules :
       (run : ℕ → Instruction) (s : State) (ms : Marks) → Stands book a run (s .game) → Sound book s →
-      let d = pass book (entriesOf (s .game .listed)) s in
-      d .state .tooMany ≡ false → PassRule book a run s ms d
-  pass-by-rules run s ms stand sound few =
-      let (to, rule, stand-last) = turns-by-rules (listed s) (listed-below sound) run s ms stand sound few in
+      PassRule book a run s ms (pass book (entriesOf (s .game .listed)) s)
+  pass-by-rules run s ms stand sound =
+      let (to, rule, stand-last) = turns-by-rules (listed s) (listed-below sound) run s ms stand sound in
       (to, execution (actual-seen s ms) rule, stand-last)
 
   pub instant-by-rules :
       (n : ℕ) (run : ℕ → Instruction) (s : State) (ms : Marks) → Stands book a run (s .game) → Sound book s →
       RoundEnds book n (entriesOf (s .game .listed)) s →
-      let d = instant book n (entriesOf (s .game .listed)) s in
-      d .played .state .tooMany ≡ false → InstantRule book a run s ms d
+      InstantRule book a run s ms (instant book n (entriesOf (s .game .listed)) s)
   unfolding instant RoundEnds
-  instant-by-rules zero run s ms stand sound ends few = absurd ends
-  instant-by-rules (suc n) run s ms stand sound (inl done) few =
-      let (to, rule, stand-first) = pass-by-rules run s ms stand sound (rw done at few) in
+  instant-by-rules zero run s ms stand sound ends = absurd ends
+  instant-by-rules (suc n) run s ms stand sound (inl done) =
+      let (to, rule, stand-first) = pass-by-rules run s ms stand sound in
       rw done (to, rule37 (rw done at rule), stand-first)
-  instant-by-rules (suc n) run s ms stand sound (inr (undone, ends)) few =
+  instant-by-rules (suc n) run s ms stand sound (inr (undone, ends)) =
       let rs = listed s in
       let first = pass book rs s in
       let u = again (first .state) in
       let (sound-last, kept) = pass-keeps book a rs (listed-below sound) s sound in
       let same : listed u ≡ rs = ap (λ l. entriesOf l) (kept .listed) in
       let sound-again = again-sound (first .state) sound-last in
-      let few-last : instant book n rs u .played .state .tooMany ≡ false = rw undone at few in
-      let few-first = instant-keeps book a n rs (listed-below sound) u sound-again .1 .few few-last in
-      let (to, rule, stand-first) = pass-by-rules run s ms stand sound few-first in
+      let (to, rule, stand-first) = pass-by-rules run s ms stand sound in
       let flags = again-seen (first .state) (ms ++ marksIn (first .told)) in
-      given (rw same at (instant-by-rules n to u (ms ++ marksIn (first .told)) stand-first sound-again (rw same ends) (rw same few-last)))
+      given (rw same at (instant-by-rules n to u (ms ++ marksIn (first .told)) stand-first sound-again (rw same ends)))
       (λ (last, others, stand-last).
       rw (undone, add-one (instant book n rs u .passes), ← marks-then)
       (last, rule38 {run″ = last} (rw undone at rule) (rw flags at others), stand-last))

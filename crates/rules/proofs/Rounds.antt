@@ -14,7 +14,6 @@ use Rattle.round.proofs.Actions.{at-start-positions}
 use Rattle.round.proofs.StartSound.{at-start-sound}
 use Rattle.round.proofs.Enough.{enough}
 use Rattle.round.proofs.After.{round-fits}
-use Rattle.round.proofs.Demand.{none-lost}
 use Rattle.rules.specs.Instructions.{Instruction}
 use Rattle.rules.specs.Instants.{Round}
 use Rattle.rules.specs.View.{view}
@@ -45,7 +44,7 @@ module _ (book : List ℕ) (a : Accepted book) where
       let range = a .laid .counts in
       let (to, rule, last) =
       instant-by-rules book a mostPasses run (atStart g) ms (at-start-stands run g stand) (at-start-sound book g a f)
-      (enough book a g f .passes) (none-lost book a g f) in
+      (enough book a g f .passes) in
       let derived : Round (round book g .passes) run (view s ms) to
       (view (round book g .played .state) (ms ++ marksIn (round book g .played .told))) = rw (chains book s ms range f) rule in
       (to, record { derived = derived; noOther = λ n run″ σ″ other. instant-determined other derived }, last)

@@ -10,8 +10,7 @@ use Rattle.round.specs.declared.Ending.{Ending}
 use Rattle.round.specs.declared.Ending.the-variants.{Ended, Rested, Missed, Continued}
 use Rattle.round.specs.declared.Position.{Position}
 use Rattle.round.specs.State.{State, withGame}
-use Rattle.round.specs.Actions.{placed}
-use Rattle.round.specs.Rounds.{Ticks, stageAfter, withEnd, afterTurn, again}
+use Rattle.round.specs.Rounds.{Ticks, behindTurn, withEnd, afterTurn, again}
 use Rattle.rules.specs.Schedulers.{has}
 use Rattle.rules.specs.Instants.{withStatus, withTermination}
 use Rattle.rules.specs.Instants as paper
@@ -35,13 +34,13 @@ module _ (s : State) (ms : Marks) (r : ℕ) where
   unfolding view
   suspended-seen = List·getD-map (λ x. x .suspended) (s .game .routines) r blank
 
-  placed-seen :
+  behind-seen :
       (h : Ending) (y : Position) →
-      view (withGame s (withRoutine (s .game) r (placed (routineAt (s .game) r) (stageAfter h) y))) ms
+      view (withGame s (withRoutine (s .game) r (behindTurn (routineAt (s .game) r) h y))) ms
       ≡ withStatus r (statusAfter h) (view s ms)
   unfolding view
-  placed-seen h y =
-      let x = placed (routineAt (s .game) r) (stageAfter h) y in
+  behind-seen h y =
+      let x = behindTurn (routineAt (s .game) r) h y in
       routine-view s r x ms (changes s r x seen ∙ ap (set (map seen (s .game .routines)) r) (stage-after h))
       (keeps s r x (λ a. a .suspended) refl) (keeps s r x (λ a. a .stopping) refl)
       (keeps s r x (λ a. a .suspending) refl) (keeps s r x (λ a. a .resuming) refl)
@@ -58,4 +57,4 @@ pub after-seen :
     view (afterTurn r t) ms ≡ withTermination (statusAfter (t .ending)) r (withStatus r (statusAfter (t .ending)) (view (t .state) ms))
 after-seen r t ms =
     end-seen _ ms r (t .ending)
-    ∙ ap (λ σ. withTermination (statusAfter (t .ending)) r σ) (placed-seen (t .state) ms r (t .ending) (t .position))
+    ∙ ap (λ σ. withTermination (statusAfter (t .ending)) r σ) (behind-seen (t .state) ms r (t .ending) (t .position))

@@ -12,11 +12,12 @@ use Rattle.game.specs.declared.Routine.{Routine}
 use Rattle.game.specs.Game.{notStarted, continuing, rested, ended, blank, routineAt}
 use Rattle.round.specs.declared.Ending.{Ending}
 use Rattle.round.specs.declared.Ending.the-variants.{Ended, Rested, Missed, Continued}
-use Rattle.round.specs.State.{State}
+use Rattle.round.specs.State.{State, hasEnded}
 use Rattle.round.specs.Rounds.{stageAfter}
 use Rattle.rules.specs.Instructions.{CONT}
-use Rattle.rules.specs.Schedulers.{Stage, is, statusOf, isTerminated, isNotStarted}
-use Rattle.rules.specs.Instants.{isUnderWay}
+use Rattle.rules.specs.Schedulers.{Stage, is, statusOf, isNotStarted}
+use Rattle.rules.specs.Schedulers as paper
+use Rattle.rules.specs.Instants.{isUnderWay, isTerminated}
 use Rattle.rules.specs.View.{stageOf, view}
 use Rattle.rules.proofs.Walks.{Marks, statusAfter}
 
@@ -62,6 +63,10 @@ stage-after Continued = refl
 abbrev pub seen : Routine → Stage
 seen x = stageOf (x .stage)
 
+-- what a join asks of it
+ended-stage : (k : ℕ) → paper.hasEnded (stageOf k) ≡ hasEnded k
+ended-stage = by-stage (λ k. paper.hasEnded (stageOf k) ≡ hasEnded k) refl refl refl refl (λ k a b c d. rw (a, b, c, d))
+
 module _ (s : State) (ms : Marks) (t : ℕ) where
   pub stage-seen : statusOf (view s ms) t ≡ seen (routineAt (s .game) t)
   unfolding view
@@ -70,5 +75,5 @@ module _ (s : State) (ms : Marks) (t : ℕ) where
   pub not-started-view : isNotStarted (statusOf (view s ms) t) ≡ eqb (routineAt (s .game) t .stage) notStarted
   not-started-view = ap isNotStarted stage-seen ∙ not-started-stage (routineAt (s .game) t .stage)
 
-  pub terminated-view : isTerminated (statusOf (view s ms) t) ≡ eqb (routineAt (s .game) t .stage) ended
-  terminated-view = ap isTerminated stage-seen ∙ terminated-stage (routineAt (s .game) t .stage)
+  pub ended-view : paper.hasEnded (statusOf (view s ms) t) ≡ hasEnded (routineAt (s .game) t .stage)
+  ended-view = ap paper.hasEnded stage-seen ∙ ended-stage (routineAt (s .game) t .stage)

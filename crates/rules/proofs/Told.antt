@@ -2,7 +2,6 @@
 -- of. Step by step: each leads from a sound state to a sound one, and one that halts the turn tells of no mark.
 use Prim.Native.Nat.{ℕ, suc}
 use mathlib.Core.Path.{_≡_, refl, ap}
-use mathlib.Core.Bool.{false}
 use mathlib.Core.List.{List, [], _∷_, _++_, append-assoc, append-nil}
 use Rattle.kinds.specs.declared.Counts.{Counts}
 use Rattle.layout.specs.Layout.{routinesOf, countsOf}
@@ -19,7 +18,6 @@ use Rattle.round.proofs.Acts.{Stops, ends, rests, misses, continues}
 use Rattle.round.proofs.Stepping.{ticks-in-time}
 use Rattle.round.proofs.Sound.{Sound}
 use Rattle.round.proofs.EffectSound.{effect-sound}
-use Rattle.round.proofs.Coming.{goes-carries}
 use Rattle.rules.proofs.Walks.{Marks, HasRoom, Ends, halts, goes}
 
 -- marks in what happened, one thing after the other
@@ -52,27 +50,20 @@ module _ (book : List ℕ) (a : Accepted book) (r : ℕ) where
   abbrev steps : List ℕ
   steps = routineSteps book r
 
-  sound-room : {s : State} → Sound book s → s .tooMany ≡ false → HasRoom (routinesOf book) s
-  sound-room {s} ok few = record { starting = fit-lists book (s .game) (ok .fits) .1; items = ok .fits .sized .starting; few = few }
+  sound-room : {s : State} → Sound book s → HasRoom (routinesOf book) s
+  sound-room {s} ok = record { starting = fit-lists book (s .game) (ok .fits) .1; items = ok .fits .sized .starting }
 
   -- the steps end as t says, from these marks on, and are some number
   abbrev EndsAs : Ticks → Position → State → Marks → Type 0
   EndsAs t x s ms = (n : ℕ) × Ends counts r steps (t .ending) (t .position) (t .state) (ms ++ marksIn (t .told)) n x s ms
 
   pub ends-of :
-      (n : ℕ) (x : Position) (s : State) → InTime n (countsOf book) r (routineSteps book r) x s → Sound book s →
-      let t = ticks n (countsOf book) r (routineSteps book r) x s in
-      t .state .tooMany ≡ false → (s .tooMany ≡ false) × ((ms : Marks) → EndsAs t x s ms)
+      (n : ℕ) (x : Position) (s : State) → InTime n (countsOf book) r (routineSteps book r) x s → Sound book s → (ms : Marks) →
+      EndsAs (ticks n (countsOf book) r (routineSteps book r) x s) x s ms
   unfolding marksIn
   ends-of =
-      ticks-in-time counts r steps
-      (λ x s t. Sound book s → t .state .tooMany ≡ false → (s .tooMany ≡ false) × ((ms : Marks) → EndsAs t x s ms))
-      (λ x s q e told t same leaves right says rest ok few.
-      let (later, on) = rest (effect-sound book a s e right ok) few in
-      let here = goes-carries counts r steps (a .laid .counts .fewSignals) x s e told right says .few later in (
-        here,
-        λ ms.
-            let (n, end) = on (ms ++ marksIn told) in
-            (suc n, goes (sound-room ok here) same (rw (marks-then ms told (t .told)) at end)),
-      ))
-      (λ x s how y told same stays stops ok few. (few, λ ms. (1, rw (unmarked stops, append-nil) (halts (sound-room ok few) same))))
+      ticks-in-time counts r steps (λ x s t. Sound book s → (ms : Marks) → EndsAs t x s ms)
+      (λ x s q e told t same leaves right says rest ok ms.
+      let (n, end) = rest (effect-sound book a s e right ok) (ms ++ marksIn told) in
+      (suc n, goes (sound-room ok) same (rw (marks-then ms told (t .told)) at end)))
+      (λ x s how y told same stays stops ok ms. (1, rw (unmarked stops, append-nil) (halts same)))

@@ -13,12 +13,12 @@ use Rattle.numbers.proofs.Tests.{neither, first-or-second}
 use Rattle.round.specs.State.{State, end, number, numbersWith, isEndThere, isThere}
 use Rattle.round.specs.State as thing
 use Rattle.rules.specs.Instructions.{Status, TERM, COOP, CONT, Event, signal, term, Instruction, nothing, await, join, awaitN, joinN}
-use Rattle.rules.specs.Schedulers.{isPresent, valuesFrom, valuesOf, statusOf, isTerminated}
-use Rattle.rules.specs.Rules.{Present, Absent, Terminated, Unterminated, ⟨_&_⟩⟶[_]⟨_&_⟩, rule14, rule15, rule16, rule17, rule18}
+use Rattle.rules.specs.Schedulers.{isPresent, valuesFrom, valuesOf, statusOf, hasEnded}
+use Rattle.rules.specs.Rules.{Present, Absent, HasEnded, NotEnded, ⟨_&_⟩⟶[_]⟨_&_⟩, rule14, rule15, rule16, rule17, rule18}
 use Rattle.rules.specs.Rules.{rule18-again, rule25, rule26, rule27, rule28, rule29, rule29-again}
 use Rattle.rules.specs.View.{view}
 use Rattle.rules.proofs.Walks.{Marks}
-use Rattle.rules.proofs.Stages.{terminated-view}
+use Rattle.rules.proofs.Stages.{ended-view}
 
 pub coop-term : COOP ≢ TERM
 coop-term e = true≢false (cc)
@@ -36,18 +36,18 @@ module _ (s : State) (ms : Marks) where
   unfolding isThere view
   signal-there e = refl
 
-  end-there : (t : ℕ) → isThere s (end t) ≡ (isTerminated (statusOf (view s ms) t) || isPresent (term t) (view s ms))
+  end-there : (t : ℕ) → isThere s (end t) ≡ (hasEnded (statusOf (view s ms) t) || isPresent (term t) (view s ms))
   unfolding isThere isEndThere
-  end-there t = rw (terminated-view s ms t) (unfold view in refl)
+  end-there t = rw (ended-view s ms t) (unfold view in refl)
 
   end-found :
       (t : ℕ) → isThere s (end t) ≡ true →
-      Terminated t (view s ms) ⊎ (Unterminated t (view s ms) × Present (term t) (view s ms))
+      HasEnded t (view s ms) ⊎ (NotEnded t (view s ms) × Present (term t) (view s ms))
   end-found t h =
-      first-or-second (isTerminated (statusOf (view s ms) t)) (isPresent (term t) (view s ms)) (sym (end-there t) ∙ h)
+      first-or-second (hasEnded (statusOf (view s ms) t)) (isPresent (term t) (view s ms)) (sym (end-there t) ∙ h)
 
-  end-missing : (t : ℕ) → isThere s (end t) ≡ false → Unterminated t (view s ms) × Absent (term t) (view s ms)
-  end-missing t h = neither (isTerminated (statusOf (view s ms) t)) (isPresent (term t) (view s ms)) (sym (end-there t) ∙ h)
+  end-missing : (t : ℕ) → isThere s (end t) ≡ false → NotEnded t (view s ms) × Absent (term t) (view s ms)
+  end-missing t h = neither (hasEnded (statusOf (view s ms) t)) (isPresent (term t) (view s ms)) (sym (end-there t) ∙ h)
 
   number-there : (e k : ℕ) → isThere s (number e k) ≡ leb k (length (valuesOf (view s ms) e))
   unfolding isThere view
@@ -80,10 +80,10 @@ module _ (s : State) (ms : Marks) where
   -- a join of t, by what an await of term(t) comes to
   tried-end :
       (t : ℕ) {i later j after : Instruction} → Tried (isPresent (term t) (view s ms)) i later →
-      (Terminated t (view s ms) → Idle j TERM nothing) →
-      (Unterminated t (view s ms) → Idle i TERM nothing → Idle j TERM nothing) →
-      (Unterminated t (view s ms) → Idle i COOP later → Idle j COOP after) →
-      (Unterminated t (view s ms) → Idle i CONT i → Idle j CONT j) →
+      (HasEnded t (view s ms) → Idle j TERM nothing) →
+      (NotEnded t (view s ms) → Idle i TERM nothing → Idle j TERM nothing) →
+      (NotEnded t (view s ms) → Idle i COOP later → Idle j COOP after) →
+      (NotEnded t (view s ms) → Idle i CONT i → Idle j CONT j) →
       Tried (isThere s (end t)) j after
   tried-end t w over found rests again =
       record {

@@ -54,7 +54,7 @@ module _ (counts : Counts) (r : ℕ) (steps : List ℕ) where
       past-last :
           {m : ℕ} {i : Instruction} {σ : Scheduler} {x : Position} {v : State} {vs : Marks} →
           x .place ≡ sizeOf steps → ⟨ i & σ ⟩⟶[ TERM ]⟨ nothing & view v vs ⟩ → Ends counts r steps h y u us m x v vs → ByRules i σ
-      past-last {x = x} l run (halts f e) =
+      past-last {x = x} l run (halts e) =
           let q = sym (ap (λ (a : Tick). a .act) e) ∙ quits x u l in
           let how : h ≡ Ended = cc in
           let there : y ≡ fresh (sizeOf steps) = cc in

@@ -1,8 +1,7 @@
--- The steps of a turn laid out one after the other, for proofs by induction: each state on the way is one of which the rules can be shown,
--- and the marks made so far are carried beside it.
+-- The steps of a turn laid out one after the other, for proofs by induction: each state from which a step goes on has room for a start, and
+-- the marks made so far are carried beside it.
 use Prim.Native.Nat.{ℕ, suc}
 use mathlib.Core.Path.{_≡_}
-use mathlib.Core.Bool.{false}
 use mathlib.Core.List.{List, _++_}
 use lib.ListN.{length}
 use lib.IntN.{ℤ}
@@ -22,11 +21,10 @@ use Rattle.rules.specs.Instructions.{Status, TERM, COOP, CONT}
 abbrev pub Marks : Type 0
 Marks = List (ℕ × ℤ)
 
--- what is asked of a state to show the rules of its steps: a start finds room, and no number was too many
+-- what is asked of a state to show the rule of a start: it finds room
 pub record HasRoom (routines : ℕ) (s : State) : Type 0 where
   pub starting : LineRight (s .game .starting) routines
   pub items : length (s .game .starting .items) ≡ mostEntries
-  pub few : s .tooMany ≡ false
 
 -- the status of a routine behind a turn
 abbrev pub statusAfter : Ending → Status
@@ -41,7 +39,7 @@ module _ (counts : Counts) (r : ℕ) (steps : List ℕ) where
   pub data Ends (h : Ending) (y : Position) (u : State) (us : Marks) : ℕ → Position → State → Marks → Type 0 where
     halts :
         {n : ℕ} {x : Position} {told : List Happening} →
-        HasRoom (counts .routines) u → tick counts r steps x u ≡ telling (Halts h y) told → Ends h y u us (suc n) x u us
+        tick counts r steps x u ≡ telling (Halts h y) told → Ends h y u us (suc n) x u us
     goes :
         {n q : ℕ} {x : Position} {s : State} {ms : Marks} {e : Effect} {told : List Happening} →
         HasRoom (counts .routines) s → tick counts r steps x s ≡ telling (Goes q e) told →

@@ -9,7 +9,7 @@ use lib.ListN.{set}
 use Rattle.numbers.specs.Choice.{if_then_else_}
 use Rattle.rules.specs.Instructions.{Status, TERM, COOP, CONT, term, Instruction}
 use Rattle.rules.specs.Schedulers.{Stage, notStarted, is, stopped, Scheduler, withActual, withCurrent, withOrders, withThreads}
-use Rattle.rules.specs.Schedulers.{has, statusOf, isTerminated, moved, withEvent}
+use Rattle.rules.specs.Schedulers.{has, statusOf, moved, withEvent}
 use Rattle.rules.specs.Rules.{⟨_&_⟩⟶[_]⟨_&_⟩}
 
 -- t[run := inst], for the instructions of all threads
@@ -140,6 +140,14 @@ action4 σ = withSusp σ (zipWith (λ s r. s && not r) (σ .threads .susp) (σ .
 -- Action 5: "for each t ∈ to_suspend, set t.susp to true"
 abbrev pub action5 : Scheduler → Scheduler
 action5 σ = withSusp σ (zipWith _||_ (σ .threads .susp) (σ .orders .toSuspend))
+
+-- t.status is TERM, as action 6 asks
+abbrev pub isTerminated : Stage → Bool
+isTerminated notStarted = false
+isTerminated (is TERM) = true
+isTerminated (is COOP) = false
+isTerminated (is CONT) = false
+isTerminated stopped = false
 
 -- Action 6: "for each thread t ∈ actual, remove it if t.status is TERM, and otherwise set t.status to CONT"
 abbrev pub action6 : Scheduler → Scheduler

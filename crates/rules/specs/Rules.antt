@@ -9,7 +9,7 @@ use Rattle.numbers.specs.Relations.{Holds}
 use Rattle.rules.specs.Instructions.{Status, TERM, COOP, CONT, Event, signal, term, Call, Expression, Instruction, nothing, call}
 use Rattle.rules.specs.Instructions.{_then_, while, whileInst, ifElse, cooperate, await, generate, generateValue, join, create, stop}
 use Rattle.rules.specs.Instructions.{suspend, resume, cooperateN, awaitN, joinN, getValue}
-use Rattle.rules.specs.Schedulers.{Scheduler, statusOf, isTerminated, isPresent, moved, withEvent, withValue, valuesOf, content}
+use Rattle.rules.specs.Schedulers.{Scheduler, statusOf, hasEnded, isPresent, moved, withEvent, withValue, valuesOf, content}
 use Rattle.rules.specs.Schedulers.{Called, returned, withStart, withStop, withSuspend, withResume}
 
 -- the expression is true in the environment; it changes nothing there
@@ -22,12 +22,12 @@ Present e σ = isPresent e σ ≡ true
 abbrev pub Absent : Event → Scheduler → Type 0
 Absent e σ = isPresent e σ ≡ false
 
--- t.status = TERM, and t.status ≠ TERM
-abbrev pub Terminated : ℕ → Scheduler → Type 0
-Terminated t σ = isTerminated (statusOf σ t) ≡ true
+-- t.status = TERM, and t.status ≠ TERM, as a join asks
+abbrev pub HasEnded : ℕ → Scheduler → Type 0
+HasEnded t σ = hasEnded (statusOf σ t) ≡ true
 
-abbrev pub Unterminated : ℕ → Scheduler → Type 0
-Unterminated t σ = isTerminated (statusOf σ t) ≡ false
+abbrev pub NotEnded : ℕ → Scheduler → Type 0
+NotEnded t σ = hasEnded (statusOf σ t) ≡ false
 
 infix 1 ⟨_&_⟩⟶[_]⟨_&_⟩
 pub data ⟨_&_⟩⟶[_]⟨_&_⟩ : Instruction → Scheduler → Status → Instruction → Scheduler → Type 0 where
@@ -80,14 +80,14 @@ pub data ⟨_&_⟩⟶[_]⟨_&_⟩ : Instruction → Scheduler → Status → Ins
   -- 4.8 Join. Rule 18 is in two parts, since document 01 reads it otherwise where the wait goes on: "A join left waiting asks again at
   -- every try, by rules 17 and 28, whether the routine has ended. Rules 18 and 29 taken literally would leave only the wait for the end
   -- signal".
-  rule17 : {t : ℕ} {σ : Scheduler} → Terminated t σ → ⟨ join t & σ ⟩⟶[ TERM ]⟨ nothing & σ ⟩
+  rule17 : {t : ℕ} {σ : Scheduler} → HasEnded t σ → ⟨ join t & σ ⟩⟶[ TERM ]⟨ nothing & σ ⟩
   rule18 :
       {t : ℕ} {i : Instruction} {σ σ′ : Scheduler} →
-      Unterminated t σ → ⟨ await (term t) & σ ⟩⟶[ TERM ]⟨ i & σ′ ⟩ →
+      NotEnded t σ → ⟨ await (term t) & σ ⟩⟶[ TERM ]⟨ i & σ′ ⟩ →
       ⟨ join t & σ ⟩⟶[ TERM ]⟨ i & σ′ ⟩
   rule18-again :
       {t : ℕ} {i : Instruction} {σ σ′ : Scheduler} {α : Status} →
-      Unterminated t σ → ⟨ await (term t) & σ ⟩⟶[ α ]⟨ i & σ′ ⟩ → α ≢ TERM →
+      NotEnded t σ → ⟨ await (term t) & σ ⟩⟶[ α ]⟨ i & σ′ ⟩ → α ≢ TERM →
       ⟨ join t & σ ⟩⟶[ α ]⟨ join t & σ′ ⟩
   -- 4.9 Create, 4.10 Stop, 4.11 Suspend, 4.12 Resume. Document 01 on rule 19: "A start of a routine that isn't in stage 0, or is already to
   -- start, adds nothing."
@@ -109,14 +109,14 @@ pub data ⟨_&_⟩⟶[_]⟨_&_⟩ : Instruction → Scheduler → Status → Ins
       Absent e σ → 0 < k → σ .current .eoi ≡ true →
       ⟨ awaitN e k & σ ⟩⟶[ COOP ]⟨ awaitN e (k - 1) & σ ⟩
   -- 4.15 Join_n. Rule 29 is read as rule 18 is.
-  rule28 : {t k : ℕ} {σ : Scheduler} → Terminated t σ ⊎ (k ≤ 0) → ⟨ joinN t k & σ ⟩⟶[ TERM ]⟨ nothing & σ ⟩
+  rule28 : {t k : ℕ} {σ : Scheduler} → HasEnded t σ ⊎ (k ≤ 0) → ⟨ joinN t k & σ ⟩⟶[ TERM ]⟨ nothing & σ ⟩
   rule29 :
       {t k : ℕ} {i : Instruction} {σ σ′ : Scheduler} →
-      Unterminated t σ → ⟨ awaitN (term t) k & σ ⟩⟶[ TERM ]⟨ i & σ′ ⟩ →
+      NotEnded t σ → ⟨ awaitN (term t) k & σ ⟩⟶[ TERM ]⟨ i & σ′ ⟩ →
       ⟨ joinN t k & σ ⟩⟶[ TERM ]⟨ i & σ′ ⟩
   rule29-again :
       {t k k′ : ℕ} {σ σ′ : Scheduler} {α : Status} →
-      Unterminated t σ → ⟨ awaitN (term t) k & σ ⟩⟶[ α ]⟨ awaitN (term t) k′ & σ′ ⟩ → α ≢ TERM →
+      NotEnded t σ → ⟨ awaitN (term t) k & σ ⟩⟶[ α ]⟨ awaitN (term t) k′ & σ′ ⟩ → α ≢ TERM →
       ⟨ joinN t k & σ ⟩⟶[ α ]⟨ joinN t k′ & σ′ ⟩
   -- 4.16 Generated Values
   rule30 :

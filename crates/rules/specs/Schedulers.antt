@@ -80,12 +80,13 @@ isAmong t (u ∷ us) = eqb t u || isAmong t us
 abbrev pub statusOf : Scheduler → ℕ → Stage
 statusOf σ t = getD (σ .threads .status) t notStarted
 
-abbrev pub isTerminated : Stage → Bool
-isTerminated notStarted = false
-isTerminated (is TERM) = true
-isTerminated (is COOP) = false
-isTerminated (is CONT) = false
-isTerminated stopped = false
+-- t.status = TERM, as a join asks by rules 17, 18, 28 and 29; document 01: "Only stage 3 is TERM."
+abbrev pub hasEnded : Stage → Bool
+hasEnded notStarted = false
+hasEnded (is TERM) = true
+hasEnded (is COOP) = false
+hasEnded (is CONT) = false
+hasEnded stopped = false
 
 abbrev pub isNotStarted : Stage → Bool
 isNotStarted notStarted = true
