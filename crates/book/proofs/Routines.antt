@@ -16,7 +16,7 @@ use Rattle.kinds.specs.declared.Step.the-variants as step
 use Rattle.forms.specs.declared.Form.the-variants.{ElseMarker, EndMarker}
 use Rattle.layout.specs.Layout.{routinesOf, stepsOf, countsOf}
 use Rattle.directory.specs.Directory.{firstStep, stepCount, routineFrom, routinePart, routineSteps}
-use Rattle.kinds.specs.Steps.{stepBytes, stepAt}
+use Rattle.kinds.specs.Steps.{stepBytes, kindAt, stepAt}
 use Rattle.blocks.specs.Blocks.{View, stands, viewAt, deepest}
 use Rattle.partners.specs.Partners.{partnerOf}
 use Rattle.book.specs.Book.{stepsPart, viewOf, isShown, shown, shownFrom}
@@ -24,7 +24,7 @@ use Rattle.blocks.specs.Parse.{ParsedBlock, WhilesPause}
 use Rattle.book.specs.Accepted.{Accepted}
 use Rattle.book.specs.Tells.{nothing}
 use Rattle.directory.proofs.Directory as directory
-use Rattle.kinds.proofs.Readable.{rowAt, readable-step}
+use Rattle.kinds.proofs.Readable.{readable-step}
 use Rattle.book.proofs.Parts.{step-of-book, step-taken, step-routine, shown-length}
 use Rattle.partners.proofs.Scan.{finds-partner}
 use Rattle.book.proofs.Telling.{told-only}
@@ -62,7 +62,7 @@ module _ (s : List ℕ) (a : Accepted s) where
   pub step-kind : (i : ℕ) → i < stepsOf s → (k : Kind) × (stepAt (countsOf s) (stepsPart s) i ≡ step.Kind k)
   step-kind i h =
       let there = step-of-book s (a .laid .offsets .size) i h in
-      (rowAt (countsOf s) (stepsPart s) i .4, readable-step (countsOf s) (stepsPart s) i there (a .readable i h))
+      (kindAt (stepsPart s) i, readable-step (countsOf s) (stepsPart s) i there (a .readable i h))
 
   -- a routine lies within the book's steps
   pub routine-within : (r : ℕ) → r < routinesOf s → firstStep s r + stepCount s r ≤ stepsOf s

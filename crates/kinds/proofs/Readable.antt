@@ -1,4 +1,4 @@
--- A step is taken apart into its row's kind if its fields are those of the row, and is turned down otherwise.
+-- A step is taken apart into the kind of its op and fields if the fields are within its limits, and is turned down otherwise.
 -- By the tests that the decoding makes, each read as the order that it tests; the table's rows are not looked at.
 use Prim.Native.Nat.{ℕ, _/_, _<_, _≤_}
 use mathlib.Core.Path.{_≡_, refl, _∙_, sym}
@@ -17,8 +17,7 @@ use Rattle.numbers.specs.Numbers.{isWithin}
 use Rattle.kinds.specs.declared.Kind.{Kind}
 use Rattle.kinds.specs.declared.Step.the-variants as step
 use Rattle.kinds.specs.declared.Counts.{Counts}
-use Rattle.kinds.specs.declared.Row.{Row}
-use Rattle.kinds.specs.Steps.{stepBytes, Readable, rowOf, decoded, opAt, fieldA, fieldB, fieldN, stepAt}
+use Rattle.kinds.specs.Steps.{stepBytes, Row, rowOf, kindOf, Readable, decoded, opAt, fieldA, fieldB, fieldN, kindAt, stepAt}
 
 pub kind-not-refused : {k : Kind} → step.Kind k ≡ step.Refused → ⊥
 kind-not-refused h = let z : _≡_ {A = ℕ} 0 1 = cc in omega arith
@@ -35,42 +34,39 @@ passed false k h = absurd (kind-not-refused (sym h))
 module _ (counts : Counts) (op a b : ℕ) (n : ℤ) where
   -- the row of the step's op, and the tests of the fields
   abbrev own : Row
-  own = rowOf counts op a b n
+  own = rowOf op
 
   abbrev testA : Bool
-  testA = ltb a (own .0)
+  testA = ltb a (own .aCount counts)
 
   abbrev testB : Bool
-  testB = ltb b (own .1)
+  testB = ltb b (own .bCount counts)
 
   abbrev testN : Bool
-  testN = isWithin n (own .2) (own .3)
+  testN = isWithin n (own .lowestN) (own .highestN)
 
-  pub readable-kind : Readable counts op a b n → decoded counts op a b n ≡ step.Kind (rowOf counts op a b n .4)
+  pub readable-kind : Readable counts op a b n → decoded counts op a b n ≡ step.Kind (kindOf op a b n)
   unfolding decoded
   readable-kind h =
-      let fitsA = lt→ltb a (own .0) (h .aFits) in
-      let fitsB = lt→ltb b (own .1) (h .bFits) in
-      let fitsN = yes-and (leZ (own .2) n) (leZ n (own .3)) (h .above .le) (h .below .le) in
-      pass (testA && testB && testN) (own .4) (yes-and (testA && testB) testN (yes-and testA testB fitsA fitsB) fitsN)
+      let fitsA = lt→ltb a (own .aCount counts) (h .aFits) in
+      let fitsB = lt→ltb b (own .bCount counts) (h .bFits) in
+      let fitsN = yes-and (leZ (own .lowestN) n) (leZ n (own .highestN)) (h .above .le) (h .below .le) in
+      pass (testA && testB && testN) (kindOf op a b n) (yes-and (testA && testB) testN (yes-and testA testB fitsA fitsB) fitsN)
 
   pub kind-readable : {k : Kind} → decoded counts op a b n ≡ step.Kind k → Readable counts op a b n
   unfolding decoded
   kind-readable h =
-      let all = and-yes (testA && testB) testN (passed (testA && testB && testN) (own .4) h) in
+      let all = and-yes (testA && testB) testN (passed (testA && testB && testN) (kindOf op a b n) h) in
       let ofAB = and-yes testA testB (all .0) in
-      let ofN = and-yes (leZ (own .2) n) (leZ n (own .3)) (all .1) in
+      let ofN = and-yes (leZ (own .lowestN) n) (leZ n (own .highestN)) (all .1) in
       record {
-        aFits = ltb→lt a (own .0) (ofAB .0);
-        bFits = ltb→lt b (own .1) (ofAB .1);
+        aFits = ltb→lt a (own .aCount counts) (ofAB .0);
+        bFits = ltb→lt b (own .bCount counts) (ofAB .1);
         above = record { le = ofN .0 };
         below = record { le = ofN .1 };
       }
 
-abbrev pub rowAt : Counts → List ℕ → ℕ → Row
-rowAt counts s i = rowOf counts (opAt s i) (fieldA s i) (fieldB s i) (fieldN s i)
-
--- step i of a part of the book has the fields of its op's row
+-- step i of a part of the book has fields within its op's limits
 abbrev pub ReadableAt : Counts → List ℕ → ℕ → Type 0
 ReadableAt counts s i = Readable counts (opAt s i) (fieldA s i) (fieldB s i) (fieldN s i)
 
@@ -91,7 +87,8 @@ module _ (counts : Counts) (s : List ℕ) (i : ℕ) where
         | no n ↦ absurd (kind-not-refused (sym e ∙ step-missing (omega arith)))
       ]
 
-  pub readable-step : i < length s / stepBytes → ReadableAt counts s i → stepAt counts s i ≡ step.Kind (rowAt counts s i .4)
+  pub readable-step : i < length s / stepBytes → ReadableAt counts s i → stepAt counts s i ≡ step.Kind (kindAt s i)
+  unfolding kindAt
   readable-step h r = step-there h ∙ readable-kind counts (opAt s i) (fieldA s i) (fieldB s i) (fieldN s i) r
 
   -- a step that is one of the kinds is there, so this direction does not ask for its bytes

@@ -13,103 +13,111 @@ use Rattle.kinds.specs.declared.Kind.the-variants.{Mark, Set, Add, Take,
 use Rattle.kinds.specs.declared.Kind.the-variants.{Join, JoinFor, Read, Start, Stop, Suspend, Resume, If, Else, While, End}
 use Rattle.kinds.specs.declared.Step.{Step}
 use Rattle.kinds.specs.declared.Step.the-variants as step
+use Rattle.kinds.specs.declared.Fields.{Fields}
 use Rattle.kinds.specs.declared.Counts.{Counts}
-use Rattle.kinds.specs.declared.Row.{Row}
+use Rattle.kinds.specs.declared.LimitedKind.{LimitedKind}
 
--- a row of the table: how many values a and b have, from 0 on; the lowest and the highest n; the kind
-abbrev pub row : ℕ → ℕ → ℤ → ℤ → Kind → Row
-row a b low high k = record { 0 = a; 1 = b; 2 = low; 3 = high; 4 = k }
+-- a row of the table: how many values a and b have, from 0 on, by the book's counts; the lowest and the highest n; the kind, by the fields
+pub record Row : Type 0 where
+  pub aCount : Counts → ℕ
+  pub bCount : Counts → ℕ
+  pub lowestN : ℤ
+  pub highestN : ℤ
+  pub kind : ℕ → ℕ → ℤ → Kind
 
-abbrev pub aCount : Row → ℕ
-aCount r = r .0
-
-abbrev pub bCount : Row → ℕ
-bCount r = r .1
-
-abbrev pub lowestN : Row → ℤ
-lowestN r = r .2
-
-abbrev pub highestN : Row → ℤ
-highestN r = r .3
-
-abbrev pub kindIn : Row → Kind
-kindIn r = r .4
+abbrev pub row : (Counts → ℕ) → (Counts → ℕ) → ℤ → ℤ → (ℕ → ℕ → ℤ → Kind) → Row
+row a b low high kind = record { aCount = a; bCount = b; lowestN = low; highestN = high; kind = kind }
 
 -- "read .. n = k, 1 to 64", "b relation (0 equal, 1 less, 2 greater)"
 abbrev pub mostRead : ℤ
 mostRead = pos 64
 
-abbrev pub relations : ℕ
-relations = 3
+abbrev pub relations : Counts → ℕ
+relations counts = 3
 
 -- The table, a row an op. "Fields not named are 0": such a field has one value, and such an n lies from 0 to 0.
-abbrev pub table : Counts → ℕ → ℕ → ℤ → List Row
-table counts a b n =
-    let R = counts .routines in
-    let E = counts .signals in
-    let C = counts .counters in
+abbrev pub table : List Row
+table =
+    let R : Counts → ℕ = λ counts. counts .routines in
+    let E : Counts → ℕ = λ counts. counts .signals in
+    let C : Counts → ℕ = λ counts. counts .counters in
+    let one : Counts → ℕ = λ counts. 1 in
     let zero = pos 0 in
-    let k = countOf n in
     -- 0 mark
-    row 1 1 lowest highest (Mark n)
+    row one one lowest highest (λ a b n. Mark n)
     -- 1 set
-    ∷ row C 1 lowest highest (Set a n)
+    ∷ row C one lowest highest (λ a b n. Set a n)
     -- 2 add
-    ∷ row C 1 lowest highest (Add a n)
+    ∷ row C one lowest highest (λ a b n. Add a n)
     -- 3 take
-    ∷ row C C zero zero (Take a b)
+    ∷ row C C zero zero (λ a b n. Take a b)
     -- 4 signal
-    ∷ row E 1 zero zero (Signal a)
+    ∷ row E one zero zero (λ a b n. Signal a)
     -- 5 signal with number
-    ∷ row E C zero zero (SignalNumber a b)
+    ∷ row E C zero zero (λ a b n. SignalNumber a b)
     -- 6 rest
-    ∷ row 1 1 zero zero Rest
+    ∷ row one one zero zero (λ a b n. Rest)
     -- 7 rest n
-    ∷ row 1 1 lowest highest (RestFor k)
+    ∷ row one one lowest highest (λ a b n. RestFor (countOf n))
     -- 8 wait
-    ∷ row E 1 zero zero (Wait a)
+    ∷ row E one zero zero (λ a b n. Wait a)
     -- 9 wait n
-    ∷ row E 1 lowest highest (WaitFor a k)
+    ∷ row E one lowest highest (λ a b n. WaitFor a (countOf n))
     -- 10 join
-    ∷ row R 1 zero zero (Join a)
+    ∷ row R one zero zero (λ a b n. Join a)
     -- 11 join n
-    ∷ row R 1 lowest highest (JoinFor a k)
+    ∷ row R one lowest highest (λ a b n. JoinFor a (countOf n))
     -- 12 read
-    ∷ row E C (pos 1) mostRead (Read a b k)
+    ∷ row E C (pos 1) mostRead (λ a b n. Read a b (countOf n))
     -- 13 start
-    ∷ row R 1 zero zero (Start a)
+    ∷ row R one zero zero (λ a b n. Start a)
     -- 14 stop
-    ∷ row R 1 zero zero (Stop a)
+    ∷ row R one zero zero (λ a b n. Stop a)
     -- 15 suspend
-    ∷ row R 1 zero zero (Suspend a)
+    ∷ row R one zero zero (λ a b n. Suspend a)
     -- 16 resume
-    ∷ row R 1 zero zero (Resume a)
+    ∷ row R one zero zero (λ a b n. Resume a)
     -- 17 if
-    ∷ row C relations lowest highest (If a b n)
+    ∷ row C relations lowest highest (λ a b n. If a b n)
     -- 18 else
-    ∷ row 1 1 zero zero Else
+    ∷ row one one zero zero (λ a b n. Else)
     -- 19 while
-    ∷ row C relations lowest highest (While a b n)
+    ∷ row C relations lowest highest (λ a b n. While a b n)
     -- 20 end
-    ∷ row 1 1 zero zero End
+    ∷ row one one zero zero (λ a b n. End)
     ∷ []
 
 -- an unknown op has no row: its a has no value at all
-unfoldable pub rowOf : Counts → ℕ → ℕ → ℕ → ℤ → Row
-rowOf counts op a b n = getD (table counts a b n) op (row 0 0 (pos 0) (pos 0) End)
+abbrev pub unknown : Row
+unknown = row (λ counts. 0) (λ counts. 0) (pos 0) (pos 0) (λ a b n. End)
 
--- a step's fields are those of its op's row
+unfoldable pub rowOf : ℕ → Row
+rowOf op = getD table op unknown
+
+-- the kind of a step whose fields are op, a, b and n
+abbrev pub kindOf : ℕ → ℕ → ℕ → ℤ → Kind
+kindOf op a b n = rowOf op .kind a b n
+
+-- that kind, behind its limits
+abbrev pub limitedKind : Counts → ℕ → ℕ → ℕ → ℤ → LimitedKind
+limitedKind counts op a b n =
+    let r = rowOf op in
+    record { 0 = r .aCount counts; 1 = r .bCount counts; 2 = r .lowestN; 3 = r .highestN; 4 = kindOf op a b n }
+
+-- a step's fields are within its op's limits
 pub record Readable (counts : Counts) (op a b : ℕ) (n : ℤ) : Type 0 where
-  pub aFits : a < aCount (rowOf counts op a b n)
-  pub bFits : b < bCount (rowOf counts op a b n)
-  pub above : lowestN (rowOf counts op a b n) ≤ℤ n
-  pub below : n ≤ℤ highestN (rowOf counts op a b n)
+  pub aFits : a < rowOf op .aCount counts
+  pub bFits : b < rowOf op .bCount counts
+  pub above : rowOf op .lowestN ≤ℤ n
+  pub below : n ≤ℤ rowOf op .highestN
 
 -- "taken apart into one of the 21 kinds, or the step is turned down"
 unfoldable pub decoded : Counts → ℕ → ℕ → ℕ → ℤ → Step
 decoded counts op a b n =
-    let r = rowOf counts op a b n in
-    if ltb a (aCount r) && ltb b (bCount r) && isWithin n (lowestN r) (highestN r) then step.Kind (kindIn r) else step.Refused
+    let r = rowOf op in
+    if ltb a (r .aCount counts) && ltb b (r .bCount counts) && isWithin n (r .lowestN) (r .highestN)
+    then step.Kind (kindOf op a b n)
+    else step.Refused
 
 -- "Then S steps of 8 bytes"
 abbrev pub stepBytes : ℕ
@@ -128,6 +136,13 @@ fieldB s i = halfOf (getD s (i * stepBytes + 2) 0) (getD s (i * stepBytes + 3) 0
 abbrev pub fieldN : List ℕ → ℕ → ℤ
 fieldN s i =
     numberOf (getD s (i * stepBytes + 4) 0) (getD s (i * stepBytes + 5) 0) (getD s (i * stepBytes + 6) 0) (getD s (i * stepBytes + 7) 0)
+
+abbrev pub fieldsAt : List ℕ → ℕ → Fields
+fieldsAt s i = record { op = opAt s i; a = fieldA s i; b = fieldB s i; n = fieldN s i }
+
+-- the kind of step i of a part of the book, whether or not the step is turned down
+unfoldable pub kindAt : List ℕ → ℕ → Kind
+kindAt s i = kindOf (opAt s i) (fieldA s i) (fieldB s i) (fieldN s i)
 
 -- step i of a part of the book; turned down where its bytes are not there
 unfoldable pub stepAt : Counts → List ℕ → ℕ → Step

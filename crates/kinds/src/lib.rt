@@ -2,7 +2,9 @@
 use numbers::HIGHEST;
 use numbers::LOWEST;
 ghost use mathlib.Core.Path.{_≡_};
-ghost use Rattle.kinds.specs.Steps.{rowOf, decoded, stepAt};
+ghost use Prim.Native.Nat.{_/_, _<_};
+ghost use lib.ListN.{length};
+ghost use Rattle.kinds.specs.Steps.{limitedKind, kindOf, decoded, stepBytes, fieldsAt, kindAt, stepAt};
 
 // The 21 kinds. Indexes, relations and counts are ready to use: a count of 0 or less is 0.
 pub enum Kind {
@@ -38,6 +40,14 @@ pub enum Step {
     Refused,
 }
 
+// A step's fields: op, a, b and n.
+pub struct Fields {
+    pub op: u8,
+    pub a: usize,
+    pub b: usize,
+    pub n: i32,
+}
+
 // The numbers R, E and C of a book.
 pub struct Counts {
     pub routines: usize,
@@ -51,60 +61,96 @@ const MOST_READ: i32 = 64;
 // Equal, less and greater.
 const RELATIONS: usize = 3;
 
-// A row of the table of kinds: how many values a and b have, the lowest and the highest n, the kind.
-pub struct Row(pub usize, pub usize, pub i32, pub i32, pub Kind);
+// A kind behind its limits: how many values a and b have, the lowest and the highest n.
+pub struct LimitedKind(pub usize, pub usize, pub i32, pub i32, pub Kind);
 
-// An unnamed field has one value, 0; an unknown op has no a at all.
-fn row_of(counts: Counts, op: u8, a: usize, b: usize, n: i32) -> Row
-    ensures { λ r. ⌜ r ≡ rowOf counts op a b n ⌝ }
+// The table of kinds. An unnamed field has one value, 0; an unknown op has no a at all.
+fn limited_kind(counts: Counts, op: u8, a: usize, b: usize, n: i32) -> LimitedKind
+    ensures { λ r. ⌜ r ≡ limitedKind counts op a b n ⌝ }
 {
     let routines = counts.routines;
     let signals = counts.signals;
     let counters = counts.counters;
     let k = numbers::count(n);
     match op {
-        0 => Row(1, 1, LOWEST, HIGHEST, Kind::Mark(n)),
-        1 => Row(counters, 1, LOWEST, HIGHEST, Kind::Set(a, n)),
-        2 => Row(counters, 1, LOWEST, HIGHEST, Kind::Add(a, n)),
-        3 => Row(counters, counters, 0, 0, Kind::Take(a, b)),
-        4 => Row(signals, 1, 0, 0, Kind::Signal(a)),
-        5 => Row(signals, counters, 0, 0, Kind::SignalNumber(a, b)),
-        6 => Row(1, 1, 0, 0, Kind::Rest),
-        7 => Row(1, 1, LOWEST, HIGHEST, Kind::RestFor(k)),
-        8 => Row(signals, 1, 0, 0, Kind::Wait(a)),
-        9 => Row(signals, 1, LOWEST, HIGHEST, Kind::WaitFor(a, k)),
-        10 => Row(routines, 1, 0, 0, Kind::Join(a)),
-        11 => Row(routines, 1, LOWEST, HIGHEST, Kind::JoinFor(a, k)),
-        12 => Row(signals, counters, 1, MOST_READ, Kind::Read(a, b, k)),
-        13 => Row(routines, 1, 0, 0, Kind::Start(a)),
-        14 => Row(routines, 1, 0, 0, Kind::Stop(a)),
-        15 => Row(routines, 1, 0, 0, Kind::Suspend(a)),
-        16 => Row(routines, 1, 0, 0, Kind::Resume(a)),
-        17 => Row(counters, RELATIONS, LOWEST, HIGHEST, Kind::If(a, b, n)),
-        18 => Row(1, 1, 0, 0, Kind::Else),
-        19 => Row(counters, RELATIONS, LOWEST, HIGHEST, Kind::While(a, b, n)),
-        20 => Row(1, 1, 0, 0, Kind::End),
-        _ => Row(0, 0, 0, 0, Kind::End),
+        0 => LimitedKind(1, 1, LOWEST, HIGHEST, Kind::Mark(n)),
+        1 => LimitedKind(counters, 1, LOWEST, HIGHEST, Kind::Set(a, n)),
+        2 => LimitedKind(counters, 1, LOWEST, HIGHEST, Kind::Add(a, n)),
+        3 => LimitedKind(counters, counters, 0, 0, Kind::Take(a, b)),
+        4 => LimitedKind(signals, 1, 0, 0, Kind::Signal(a)),
+        5 => LimitedKind(signals, counters, 0, 0, Kind::SignalNumber(a, b)),
+        6 => LimitedKind(1, 1, 0, 0, Kind::Rest),
+        7 => LimitedKind(1, 1, LOWEST, HIGHEST, Kind::RestFor(k)),
+        8 => LimitedKind(signals, 1, 0, 0, Kind::Wait(a)),
+        9 => LimitedKind(signals, 1, LOWEST, HIGHEST, Kind::WaitFor(a, k)),
+        10 => LimitedKind(routines, 1, 0, 0, Kind::Join(a)),
+        11 => LimitedKind(routines, 1, LOWEST, HIGHEST, Kind::JoinFor(a, k)),
+        12 => LimitedKind(signals, counters, 1, MOST_READ, Kind::Read(a, b, k)),
+        13 => LimitedKind(routines, 1, 0, 0, Kind::Start(a)),
+        14 => LimitedKind(routines, 1, 0, 0, Kind::Stop(a)),
+        15 => LimitedKind(routines, 1, 0, 0, Kind::Suspend(a)),
+        16 => LimitedKind(routines, 1, 0, 0, Kind::Resume(a)),
+        17 => LimitedKind(counters, RELATIONS, LOWEST, HIGHEST, Kind::If(a, b, n)),
+        18 => LimitedKind(1, 1, 0, 0, Kind::Else),
+        19 => LimitedKind(counters, RELATIONS, LOWEST, HIGHEST, Kind::While(a, b, n)),
+        20 => LimitedKind(1, 1, 0, 0, Kind::End),
+        _ => LimitedKind(0, 0, 0, 0, Kind::End),
     }
 }
 
-// The step whose fields are op, a, b and n.
+// The kind of a step whose fields are op, a, b and n, whatever the counts.
+pub fn kind_of(op: u8, a: usize, b: usize, n: i32) -> Kind
+    ensures { λ r. ⌜ r ≡ kindOf op a b n ⌝ }
+{
+    let none = Counts {
+        routines: 0,
+        signals: 0,
+        counters: 0,
+    };
+    let limited = limited_kind(none, op, a, b, n);
+    limited.4
+}
+
+// The step whose fields are op, a, b and n: that kind, if the fields are within its limits.
 pub fn decode(counts: Counts, op: u8, a: usize, b: usize, n: i32) -> Step
     ensures { λ r. ⌜ r ≡ decoded counts op a b n ⌝ }
 {
-    let row = row_of(counts, op, a, b, n);
-    if row.0 <= a {
+    let limited = limited_kind(counts, op, a, b, n);
+    if limited.0 <= a {
         return Step::Refused;
     }
-    if row.1 <= b {
+    if limited.1 <= b {
         return Step::Refused;
     }
-    if numbers::is_within(n, row.2, row.3) {
-        let kind = row.4;
+    if numbers::is_within(n, limited.2, limited.3) {
+        let kind = limited.4;
         Step::Kind(kind)
     } else {
         Step::Refused
     }
+}
+
+// The fields of the step at a place whose eight bytes are there.
+fn fields_at(steps: &[u8], at: usize) -> Fields
+    requires { ⌜ at < length (now steps) / stepBytes ⌝ }
+    ensures { λ r. ⌜ r ≡ fieldsAt (now (steps .entry)) at ⌝ }
+{
+    let i = at * STEP_BYTES;
+    let op = steps[i];
+    let a = steps[i + 1] as usize;
+    let b = numbers::half(steps[i + 2], steps[i + 3]);
+    let n = numbers::number(steps[i + 4], steps[i + 5], steps[i + 6], steps[i + 7]);
+    Fields { op, a, b, n }
+}
+
+// The kind of the step at a place of steps that are not turned down, as those of an accepted book are not.
+// It serves the code that plays, which asks for such steps and tests none of them again.
+pub fn kind_at(steps: &[u8], at: usize) -> Kind
+    requires { ⌜ at < length (now steps) / stepBytes ⌝ }
+    ensures { λ r. ⌜ r ≡ kindAt (now (steps .entry)) at ⌝ }
+{
+    let fields = fields_at(steps, at);
+    kind_of(fields.op, fields.a, fields.b, fields.n)
 }
 
 // The step at a place of a part of the book; refused where its eight bytes are not there.
@@ -114,10 +160,6 @@ pub fn step_at(steps: &[u8], counts: Counts, at: usize) -> Step
     if steps.len() / STEP_BYTES <= at {
         return Step::Refused;
     }
-    let i = at * STEP_BYTES;
-    let op = steps[i];
-    let a = steps[i + 1] as usize;
-    let b = numbers::half(steps[i + 2], steps[i + 3]);
-    let n = numbers::number(steps[i + 4], steps[i + 5], steps[i + 6], steps[i + 7]);
-    decode(counts, op, a, b, n)
+    let fields = fields_at(steps, at);
+    decode(counts, fields.op, fields.a, fields.b, fields.n)
 }

@@ -1,7 +1,7 @@
 // The numbers of a book: little-endian, of 16 bits and of 32 in two's complement.
 ghost use mathlib.Core.Path.{_≡_};
 ghost use Prim.Native.Nat.{_<_};
-ghost use Rattle.numbers.specs.Numbers.{halfLimit, halfOf, halfAt, numberOf, isWithin, countOf};
+ghost use Rattle.numbers.specs.Numbers.{halfLimit, halfOf, halfAt, numberOf, isWithin, countOf, sumOf, relationOf};
 
 // The ends of n.
 pub const LOWEST: i32 = -1000000;
@@ -64,4 +64,33 @@ pub fn count(n: i32) -> usize
     ensures { λ r. ⌜ r ≡ countOf n ⌝ }
 {
     if n < 0 { 0 } else { n as usize }
+}
+
+// A counter's content v with n added, kept between the counter's ends: 64 bits hold the sum of any two numbers of 32.
+pub fn sum_of(v: i32, n: i32) -> Sum
+    ensures { λ r. ⌜ r ≡ sumOf v n ⌝ }
+{
+    let sum = (v as i64) + (n as i64);
+    if (HIGHEST_COUNTER as i64) < sum {
+        return Sum {
+            sum: HIGHEST_COUNTER,
+        };
+    }
+    if sum < (LOWEST_COUNTER as i64) {
+        return Sum {
+            sum: LOWEST_COUNTER,
+        };
+    }
+    Sum { sum: sum as i32 }
+}
+
+// A counter's content v against n, by 0 equal, 1 less, 2 greater: 1 where the relation holds, and 0. Equal is neither less nor greater.
+pub fn relation(relation: usize, v: i32, n: i32) -> usize
+    ensures { λ r. ⌜ r ≡ relationOf relation v n ⌝ }
+{
+    match relation {
+        0 => is_within(n, v, v) as usize,
+        1 => (v < n) as usize,
+        _ => (n < v) as usize,
+    }
 }

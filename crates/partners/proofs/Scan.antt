@@ -20,12 +20,11 @@ use Rattle.kinds.specs.declared.Kind.the-variants.{Else}
 use Rattle.kinds.specs.declared.Step.{Step}
 use Rattle.kinds.specs.declared.Step.the-variants as step
 use Rattle.kinds.specs.declared.Counts.{Counts}
-use Rattle.kinds.specs.declared.Row.{Row}
 use Rattle.forms.specs.declared.Form.{Form}
 use Rattle.forms.specs.declared.Form.the-variants.{Plain, Pausing, IfOpening, ElseMarker, WhileOpening, EndMarker}
-use Rattle.kinds.specs.Steps.{table, opAt, fieldA, fieldB, fieldN, stepAt}
+use Rattle.kinds.specs.Steps.{opAt, fieldA, fieldB, fieldN, stepAt}
 use Rattle.forms.specs.Forms.{formOf}
-use Rattle.kinds.proofs.Rows.{Rows, _and_, step-holds, row-kind}
+use Rattle.kinds.proofs.Rows.{_and_, Kinds, kind-holds}
 use Rattle.blocks.specs.Blocks.{View, stands, seen, viewAt}
 use Rattle.partners.specs.Partners.{partnerBy, partnerOf}
 use Rattle.blocks.specs.Parse.{ParsedBlock, empty, more, ParsedStep, plain, pausing, ifOnly, ifElse, loop}
@@ -46,17 +45,17 @@ kind-seen (step.Kind k) h = (k, refl, cc)
 kind-seen step.Refused h = (Else, cc, cc)
 
 module _ (on : ℕ → ℕ) (d p : ℕ) where
-  -- the look at a row's op is the look at the form of its kind
-  abbrev SameLook : ℕ → Row → Type 0
-  SameLook op r = partnerBy on op d p ≡ lookAt (formOf (r .4)) on d p
+  -- the look at an op is the look at the form of its kind
+  abbrev SameLook : ℕ → Kind → Type 0
+  SameLook op k = partnerBy on op d p ≡ lookAt (formOf k) on d p
 
   -- op 7, which pauses or not
   rest-look : (t : Bool) → on d ≡ lookAt (if t then Plain else Pausing) on d p
   rest-look true = refl
   rest-look false = refl
 
-  table-looks : (counts : Counts) (a b : ℕ) (n : ℤ) → Rows SameLook 0 (table counts a b n)
-  table-looks counts a b n =
+  table-looks : (a b : ℕ) (n : ℤ) → Kinds SameLook a b n
+  table-looks a b n =
       refl and refl and refl and refl and refl and refl and refl and rest-look (eqb (countOf n) 0) and refl and refl and refl
       and refl and refl and refl and refl and refl and refl and refl and refl and refl and refl and tt
 
@@ -66,8 +65,7 @@ module _ (on : ℕ → ℕ) (d p : ℕ) where
       seen (stepAt counts s i) ≡ stands f → partnerBy on (opAt s i) d p ≡ lookAt f on d p
   step-look counts s i h =
       let (k, e, g) = kind-seen (stepAt counts s i) h in
-      step-holds SameLook counts s i (table-looks counts (fieldA s i) (fieldB s i) (fieldN s i)) e
-      ∙ ap (λ (f : Form). lookAt f on d p) (ap formOf (row-kind counts s i e) ∙ g)
+      kind-holds SameLook counts s i (table-looks (fieldA s i) (fieldB s i) (fieldN s i)) e ∙ ap (λ (f : Form). lookAt f on d p) g
 
 -- a part of the book, whose first n steps are a routine's
 module _ (counts : Counts) (s : List ℕ) (n : ℕ) where

@@ -11,8 +11,7 @@ use Rattle.kinds.specs.declared.Kind.the-variants.{Mark, Set, Add, Take, Signal
 use Rattle.kinds.specs.declared.Kind.the-variants.{Join, JoinFor, Read, Start, Stop, Suspend, Resume, If, Else, While, End}
 use Rattle.kinds.specs.declared.Step.the-variants as step
 use Rattle.kinds.specs.declared.Counts.{Counts}
-use Rattle.kinds.specs.declared.Row.{Row}
-use Rattle.kinds.specs.Steps.{table, fieldA, fieldB, fieldN, stepAt}
+use Rattle.kinds.specs.Steps.{Row, table, fieldA, fieldB, fieldN, stepAt}
 use Rattle.kinds.proofs.Readable.{step-readable}
 use Rattle.kinds.proofs.Rows.{Rows, _and_, step-holds, row-kind}
 
@@ -43,9 +42,9 @@ FieldsRight counts End = Unit {0}
 module _ (counts : Counts) (a b : ℕ) (n : ℤ) where
   -- the fields a, b and n within a row's limits are right for the row's kind
   abbrev RightIn : ℕ → Row → Type 0
-  RightIn op r = a < r .0 → b < r .1 → r .2 ≤ℤ n → n ≤ℤ r .3 → FieldsRight counts (r .4)
+  RightIn op r = a < r .aCount counts → b < r .bCount counts → r .lowestN ≤ℤ n → n ≤ℤ r .highestN → FieldsRight counts (r .kind a b n)
 
-  table-right : Rows RightIn 0 (table counts a b n)
+  table-right : Rows RightIn 0 table
   table-right =
       (λ ha hb low high. tt)
       and (λ ha hb low high. (ha, (low, high)))

@@ -1,7 +1,7 @@
 -- What the form that stands at a place of a routine says of the step there, and that a step's op is its kind's. A step that stands is one
 -- of the kinds, and a kind is told by its form; the table has the ops, row by row.
 use Prim.Native.Nat.{ℕ}
-use mathlib.Core.Path.{_≡_, refl, ap, _∙_}
+use mathlib.Core.Path.{_≡_, refl}
 use mathlib.Core.Bool.{Bool, true, false}
 use mathlib.Core.List.{List}
 use mathlib.Core.Logic.{_⊎_, inl, inr}
@@ -14,13 +14,12 @@ use Rattle.kinds.specs.declared.Kind.the-variants.{Join, JoinFor, Read, Start, 
 use Rattle.kinds.specs.declared.Step.{Step}
 use Rattle.kinds.specs.declared.Step.the-variants as step
 use Rattle.kinds.specs.declared.Counts.{Counts}
-use Rattle.kinds.specs.declared.Row.{Row}
 use Rattle.forms.specs.declared.Form.{Form}
 use Rattle.forms.specs.declared.Form.the-variants.{Plain, Pausing, IfOpening, ElseMarker, WhileOpening, EndMarker}
-use Rattle.kinds.specs.Steps.{table, opAt, fieldA, fieldB, fieldN, stepAt}
+use Rattle.kinds.specs.Steps.{opAt, fieldA, fieldB, fieldN, stepAt}
 use Rattle.forms.specs.Forms.{formOf}
 use Rattle.blocks.specs.Blocks.{View, stands}
-use Rattle.kinds.proofs.Rows.{Rows, _and_, step-holds, row-kind}
+use Rattle.kinds.proofs.Rows.{_and_, Kinds, kind-holds}
 use Rattle.partners.proofs.Scan.{kind-there}
 use Rattle.round.specs.Jumps.{sizeOf}
 use Rattle.round.proofs.Leads.{formAt}
@@ -86,11 +85,11 @@ opOf (While c relation n) = 19
 opOf End = 20
 
 -- each row of the table has a kind of its own op
-abbrev OwnKind : ℕ → Row → Type 0
-OwnKind op r = op ≡ opOf (r .4)
+abbrev OwnKind : ℕ → Kind → Type 0
+OwnKind op k = op ≡ opOf k
 
-own-kinds : (counts : Counts) (a b : ℕ) (n : ℤ) → Rows OwnKind 0 (table counts a b n)
-own-kinds counts a b n =
+own-kinds : (a b : ℕ) (n : ℤ) → Kinds OwnKind a b n
+own-kinds a b n =
     refl and refl and refl and refl and refl and refl and refl and refl and refl and refl and refl and refl and refl and refl and refl
     and refl and refl and refl and refl and refl and refl and tt
 
@@ -110,6 +109,4 @@ module _ (counts : Counts) (steps : List ℕ) where
 
   -- a step's op is its kind's
   pub step-op : (p : ℕ) {k : Kind} → stepAt counts steps p ≡ step.Kind k → opAt steps p ≡ opOf k
-  step-op p e =
-      step-holds OwnKind counts steps p (own-kinds counts (fieldA steps p) (fieldB steps p) (fieldN steps p)) e
-      ∙ ap opOf (row-kind counts steps p e)
+  step-op p e = kind-holds OwnKind counts steps p (own-kinds (fieldA steps p) (fieldB steps p) (fieldN steps p)) e

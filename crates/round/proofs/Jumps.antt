@@ -2,7 +2,7 @@
 -- while or past its if. The search for an end's opening goes by the ops, and the parse by the forms: they are compared row by row
 -- of the table. From there on the search passes over a block's steps with the blocks in them, and is before them as deep as behind them.
 use Prim.Native.Nat.{ℕ, suc, _+_, _-_}
-use mathlib.Core.Path.{_≡_, refl, ap, _∙_, subst}
+use mathlib.Core.Path.{_≡_, refl, _∙_, subst}
 use mathlib.Core.Bool.{Bool, true, false}
 use mathlib.Core.List.{List}
 use mathlib.Core.Logic.{_⊎_}
@@ -14,16 +14,16 @@ use lib.IntN.{ℤ}
 use borrow.Author.Tests.{ne-eqb}
 use Rattle.numbers.specs.Choice.{if_then_else_}
 use Rattle.numbers.specs.Numbers.{countOf}
+use Rattle.kinds.specs.declared.Kind.{Kind}
 use Rattle.kinds.specs.declared.Counts.{Counts}
-use Rattle.kinds.specs.declared.Row.{Row}
 use Rattle.forms.specs.declared.Form.{Form}
 use Rattle.forms.specs.declared.Form.the-variants.{Plain, Pausing, IfOpening, ElseMarker, WhileOpening, EndMarker}
-use Rattle.kinds.specs.Steps.{table, opAt, fieldA, fieldB, fieldN}
+use Rattle.kinds.specs.Steps.{opAt, fieldA, fieldB, fieldN}
 use Rattle.forms.specs.Forms.{formOf}
 use Rattle.blocks.specs.Blocks.{View, stands}
 use Rattle.partners.specs.Partners.{opWhile}
 use Rattle.blocks.specs.Parse.{ParsedBlock, empty, more, ParsedStep, plain, pausing, ifOnly, ifElse, loop}
-use Rattle.kinds.proofs.Rows.{Rows, _and_, step-holds, row-kind}
+use Rattle.kinds.proofs.Rows.{_and_, Kinds, kind-holds}
 use Rattle.partners.proofs.Scan.{kind-there, finds-partner}
 use Rattle.round.specs.Jumps.{sizeOf, pastPartner, openingBy, openingBefore, fromEnd}
 use Rattle.round.proofs.Leads.{formAt}
@@ -50,8 +50,8 @@ module _ (on : ℕ → ℕ) (d p : ℕ) where
   abbrev SameLook : ℕ → Form → Type 0
   SameLook op f = (openingBy on op d p ≡ lookAt f on d p) × (eqb op opWhile ≡ isWhile f)
 
-  abbrev RowLook : ℕ → Row → Type 0
-  RowLook op r = SameLook op (formOf (r .4))
+  abbrev KindLook : ℕ → Kind → Type 0
+  KindLook op k = SameLook op (formOf k)
 
   -- a step that the search passes by
   passed : (on d ≡ on d) × (false ≡ false)
@@ -62,8 +62,8 @@ module _ (on : ℕ → ℕ) (d p : ℕ) where
   rest-look true = (refl, refl)
   rest-look false = (refl, refl)
 
-  table-looks : (counts : Counts) (a b : ℕ) (n : ℤ) → Rows RowLook 0 (table counts a b n)
-  table-looks counts a b n =
+  table-looks : (a b : ℕ) (n : ℤ) → Kinds KindLook a b n
+  table-looks a b n =
       passed and passed and passed and passed and passed and passed and passed and rest-look (eqb (countOf n) 0) and passed and passed
       and passed and passed and passed and passed and passed and passed and passed and (refl, refl) and passed and (refl, refl)
       and (refl, refl) and tt
@@ -77,8 +77,8 @@ module _ (counts : Counts) (steps : List ℕ) where
   place-look d p h =
       let on : ℕ → ℕ = λ e. openingBefore steps e p in
       let (k, e, g) = kind-there counts steps (sizeOf steps) p h in
-      let rows = table-looks on d p counts (fieldA steps p) (fieldB steps p) (fieldN steps p) in
-      subst (SameLook on d p (opAt steps p)) (ap formOf (row-kind counts steps p e) ∙ g) (step-holds (RowLook on d p) counts steps p rows e)
+      let kinds = table-looks on d p (fieldA steps p) (fieldB steps p) (fieldN steps p) in
+      subst (SameLook on d p (opAt steps p)) g (kind-holds (KindLook on d p) counts steps p kinds e)
 
   back : (d p : ℕ) {f : Form} → at p ≡ stands f → openingBefore steps d (suc p) ≡ lookAt f (λ e. openingBefore steps e p) d p
   unfolding openingBefore

@@ -12,7 +12,7 @@ use Rattle.kinds.specs.declared.Kind.{Kind}
 use Rattle.kinds.specs.declared.Kind.the-variants.{Mark}
 use Rattle.kinds.specs.declared.Step.the-variants as step
 use Rattle.kinds.specs.declared.Counts.{Counts}
-use Rattle.kinds.specs.Steps.{rowOf, opAt, fieldA, fieldB, fieldN, stepAt}
+use Rattle.kinds.specs.Steps.{rowOf, kindOf, opAt, fieldA, fieldB, fieldN, stepAt}
 use Rattle.kinds.proofs.Rows.{row-kind}
 use Rattle.layout.specs.Layout.{stepsOf, countsOf}
 use Rattle.book.specs.Book.{stepsPart}
@@ -23,16 +23,16 @@ use Rattle.round.proofs.Counting.{Counted, counted}
 use Rattle.round.proofs.Forms.{step-op}
 
 -- the row of op 0
-mark-row : (counts : Counts) (op a b : ℕ) (n : ℤ) {k : Kind} → op ≡ opMark → rowOf counts op a b n .4 ≡ k → k ≡ Mark n
+mark-row : (op a b : ℕ) (n : ℤ) {k : Kind} → op ≡ opMark → kindOf op a b n ≡ k → k ≡ Mark n
 unfolding rowOf
-mark-row counts op a b n e h = sym (rw e at h)
+mark-row op a b n e h = sym (rw e at h)
 
 -- a step that is read has op 0 exactly if it is a mark
 mark-step :
     (counts : Counts) (steps : List ℕ) (i : ℕ) {k : Kind} → stepAt counts steps i ≡ step.Kind k →
     (eqb (opAt steps i) opMark ≡ true) ↔ ((n : ℤ) × (k ≡ Mark n))
 mark-step counts steps i e = (
-  λ h. (fieldN steps i, mark-row counts _ (fieldA steps i) (fieldB steps i) _ (eqb-true _ _ h) (row-kind counts steps i e)),
+  λ h. (fieldN steps i, mark-row _ (fieldA steps i) (fieldB steps i) _ (eqb-true _ _ h) (row-kind counts steps i e)),
   λ v. eq-eqb _ _ (step-op counts steps i (e ∙ ap step.Kind (v .1))),
 )
 

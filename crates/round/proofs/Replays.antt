@@ -13,9 +13,8 @@ use Rattle.numbers.specs.Numbers.{countOf}
 use Rattle.kinds.specs.declared.Kind.{Kind}
 use Rattle.kinds.specs.declared.Step.{Step}
 use Rattle.kinds.specs.declared.Step.the-variants as step
-use Rattle.kinds.specs.declared.Row.{Row}
-use Rattle.kinds.specs.Steps.{table, opAt, fieldA, fieldB, fieldN, stepAt}
-use Rattle.kinds.proofs.Rows.{Rows, _and_, step-holds, row-kind}
+use Rattle.kinds.specs.Steps.{fieldA, fieldB, fieldN, stepAt}
+use Rattle.kinds.proofs.Rows.{_and_, Kinds, kind-holds}
 use Rattle.layout.specs.Layout.{countsOf}
 use Rattle.directory.specs.Directory.{routineSteps}
 use Rattle.game.specs.declared.Game.{Game}
@@ -101,8 +100,7 @@ module _ (book : List ℕ) where
 
     -- each row of the table: its op with the fields a, b and n
     table-agrees :
-        (a b : ℕ) (n : ℤ) →
-        Rows (λ op row. TickAgrees op a b n (tickOf r steps x s (row .4))) 0 (table (countsOf book) a b n)
+        (a b : ℕ) (n : ℤ) → Kinds (λ op k. TickAgrees op a b n (tickOf r steps x s k)) a b n
     unfolding tickOf effectOn madeBy leadsTo contentsAfter
     table-agrees a b n =
         (refl, refl)
@@ -141,8 +139,7 @@ module _ (book : List ℕ) where
         let a = fieldA steps p in
         let b = fieldB steps p in
         let n = fieldN steps p in
-        subst (λ (k : Kind). TickAgrees (opAt steps p) a b n (tickOf r steps x s k)) (row-kind (countsOf book) steps p e)
-        (step-holds (λ op (row : Row). TickAgrees op a b n (tickOf r steps x s (row .4))) (countsOf book) steps p (table-agrees a b n) e)
+        kind-holds (λ op (k : Kind). TickAgrees op a b n (tickOf r steps x s k)) (countsOf book) steps p (table-agrees a b n) e
     step-agrees step.Refused e = (refl, refl)
 
     abbrev here : Step
