@@ -251,7 +251,8 @@ use Rattle.orders.specs.Orders.{fitVerdict, numberVerdict, orderVerdict, obeyed
 use Rattle.round.specs.declared.Ending.the-variants.{Ended, Rested, Missed, Continued}
 use Rattle.round.specs.Actions.{atStart}
 use Rattle.round.specs.Counting.{stepsIn, howMany}
-use Rattle.round.specs.Rounds.{Turn, passedOver, took}
+use Rattle.round.specs.declared.Turn.{Turn}
+use Rattle.round.specs.declared.Turn.the-variants.{PassedOver, Took}
 use Rattle.round.specs.Rounds as rounds
 use Rattle.round.specs.Answers.{numbersPerMark, spaceVerdict, numbersVerdict, roundVerdict, Answer, turnedDown, playedOut, answer}
 use Rattle.round.specs.Demand.{isSignalStep, givesSignal, endsRoutine}
@@ -395,11 +396,11 @@ dumped g =
 
 -- a byte for each turn
 abbrev turnByte : Turn → ℕ
-turnByte passedOver = 0
-turnByte (took Ended) = 1
-turnByte (took Rested) = 2
-turnByte (took Missed) = 2
-turnByte (took Continued) = 3
+turnByte PassedOver = 0
+turnByte (Took Ended) = 1
+turnByte (Took Rested) = 2
+turnByte (Took Missed) = 2
+turnByte (Took Continued) = 3
 
 -- a line for each mark
 unfoldable pub markLines : List ℤ → Lines

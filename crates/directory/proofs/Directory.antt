@@ -4,14 +4,15 @@ use Prim.Native.Nat.{ℕ, suc, _+_, _-_, _*_, _/_, _≤_, _<_}
 use mathlib.Core.Path.{_≡_}
 use mathlib.Core.List.{List}
 use native.Mathlib.Omega.{arith}
-use lib.ListN.{length, List·getD-eq-default}
+use lib.ListN.{length, take, drop, List·getD-eq-default}
 use borrow.Author.Tests.{le-leb}
 use Rattle.numbers.specs.Numbers.{halfAt}
 use Rattle.numbers.specs.Below.{sumBelow}
 use Rattle.numbers.proofs.Below.{below-cut}
 use Rattle.kinds.specs.Steps.{stepBytes}
 use Rattle.layout.specs.Layout.{headerBytes, entryBytes, routinesOf, stepsOf, stepsFrom}
-use Rattle.directory.specs.Directory.{firstStep, stepCount, stepsBefore, EntriesFollow, routineFrom, routineStepsFrom}
+use Rattle.directory.specs.Directory.{firstStep, stepCount, stepsBefore, EntriesFollow, routineFrom, routinePart, routineSteps}
+use Rattle.directory.specs.Directory.{routineStepsFrom}
 
 -- the numbers of routine r's entry, in a book without bytes there
 pub entry-missing : (s : List ℕ) {r : ℕ} (k : ℕ) → length s / entryBytes ≤ r → halfAt s (headerBytes + k + entryBytes * r) ≡ 0
@@ -23,6 +24,13 @@ entry-missing s {r} k h =
 pub begins-there : (s : List ℕ) (r : ℕ) → routineFrom s r ≤ length s → routineStepsFrom s r ≡ routineFrom s r
 unfolding routineStepsFrom
 begins-there s r h = rw (le-leb _ _ h)
+
+-- the part of the book from a routine's first byte on, as long as its steps, is its steps
+pub steps-there :
+    (s : List ℕ) (r : ℕ) {from size : ℕ} → from ≡ routineFrom s r → size ≡ stepBytes * stepCount s r →
+    take (from + size - from) (drop from s) ≡ routineSteps s r
+unfolding routinePart
+steps-there s r {from} {size} begins bytes = let same : from + size - from ≡ size = omega arith in rw (same, begins, bytes)
 
 module _ (s : List ℕ) where
   pub before-grows : (a b : ℕ) → a ≤ b → stepsBefore s a ≤ stepsBefore s b

@@ -22,6 +22,7 @@ pub const ENDED: u8 = 3;
 pub const STOPPED: u8 = 4;
 
 // What is kept of a routine (the paper's thread). The last three flags say whether it is in the sets to stop, suspend and resume.
+#[repr(C)]
 pub struct Routine {
     pub stage: u8,
     pub place: u16,
@@ -35,6 +36,7 @@ pub struct Routine {
 
 // A game: the numbers R, E and C, the routines, the counters, the playing order (the paper's actual), those to start (to_start), and the
 // signals to broadcast (to_broadcast). In a game that fits its book nothing is kept beyond R, E and C or behind a list's length.
+#[repr(C)]
 pub struct Game {
     pub counts: Counts,
     pub routines: [Routine; MOST_ROUTINES],

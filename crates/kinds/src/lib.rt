@@ -49,6 +49,7 @@ pub struct Fields {
 }
 
 // The numbers R, E and C of a book.
+#[repr(C)]
 pub struct Counts {
     pub routines: usize,
     pub signals: usize,
@@ -143,8 +144,8 @@ fn fields_at(steps: &[u8], at: usize) -> Fields
     Fields { op, a, b, n }
 }
 
-// The kind of the step at a place of steps that are not turned down, as those of an accepted book are not.
-// It serves the code that plays, which asks for such steps and tests none of them again.
+// The kind of the step at a place whose eight bytes are there, without the test of its fields. It serves the code that plays, whose steps
+// are those of an accepted book.
 pub fn kind_at(steps: &[u8], at: usize) -> Kind
     requires { ⌜ at < length (now steps) / stepBytes ⌝ }
     ensures { λ r. ⌜ r ≡ kindAt (now (steps .entry)) at ⌝ }

@@ -12,9 +12,13 @@ use Rattle.numbers.specs.Below.{anyBelow}
 abbrev pub mostEntries : ℕ
 mostEntries = 64
 
+-- a list of these entries and this length
+abbrev pub lineOf : List ℕ → ℕ → Line
+lineOf items len = record { items = items; len = len }
+
 -- a list without entries
 abbrev pub empty : Line
-empty = record { items = replicate mostEntries 0; len = 0 }
+empty = lineOf (replicate mostEntries 0) 0
 
 -- entry i of a list
 abbrev pub itemAt : Line → ℕ → ℕ
@@ -30,7 +34,7 @@ isIn l r = anyBelow (usedOf l) (λ i. eqb (itemAt l i) r)
 
 -- routine r at a list's end; a full list takes no more
 abbrev pub pushed : Line → ℕ → Line
-pushed l r = if ltb (l .len) mostEntries then record { items = set (l .items) (l .len) r; len = l .len + 1 } else l
+pushed l r = if ltb (l .len) mostEntries then lineOf (set (l .items) (l .len) r) (l .len + 1) else l
 
 -- the routines in a list, in order
 abbrev pub entriesOf : Line → List ℕ

@@ -9,9 +9,15 @@ use lib.Signed.{_≤ℤ_, leZ, ltZ}
 use Rattle.numbers.specs.declared.Sum.{Sum}
 use Rattle.numbers.specs.Choice.{if_then_else_}
 
--- how many numbers 16 bits hold
+-- how many numbers 8, 16 and 32 bits hold
+abbrev pub byteLimit : ℕ
+byteLimit = 256
+
 abbrev pub halfLimit : ℕ
 halfLimit = 65536
+
+abbrev pub wordLimit : ℕ
+wordLimit = 4294967296
 
 abbrev pub halfOf : ℕ → ℕ → ℕ
 halfOf low high = low + high * 256

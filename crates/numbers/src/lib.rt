@@ -84,7 +84,7 @@ pub fn sum_of(v: i32, n: i32) -> Sum
     Sum { sum: sum as i32 }
 }
 
-// A counter's content v against n, by 0 equal, 1 less, 2 greater: 1 where the relation holds, and 0. Equal is neither less nor greater.
+// A counter's content v against n, by 0 equal, 1 less, 2 greater: 1 where the relation holds, and 0. Equal: n lies from v to v.
 pub fn relation(relation: usize, v: i32, n: i32) -> usize
     ensures { λ r. ⌜ r ≡ relationOf relation v n ⌝ }
 {

@@ -9,6 +9,7 @@ use kinds::Counts;
 use layout::counts_of;
 use reading::read_book;
 use setup::Outcome;
+use verdicts::UNFIT;
 use verdicts::Verdict;
 use verdicts::told;
 use verdicts::verdict_of;
@@ -28,9 +29,7 @@ pub const SUSPEND: u32 = 3;
 
 pub const RESUME: u32 = 4;
 
-// The numbers of the refusals that an order tells after those of its book.
-const UNFIT: u32 = 9;
-
+// The number of the refusal of an order itself.
 const WRONG_ORDER: u32 = 8;
 
 // How many numbers an order of this kind may name.

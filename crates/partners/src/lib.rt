@@ -6,13 +6,14 @@ ghost use lib.ListN.{length};
 ghost use Rattle.kinds.specs.Steps.{stepBytes};
 ghost use Rattle.partners.specs.Partners.{partnerOf};
 
-const OP_IF: u8 = 17;
+// The ops of the steps that hold blocks, and of their markers.
+pub const OP_IF: u8 = 17;
 
-const OP_ELSE: u8 = 18;
+pub const OP_ELSE: u8 = 18;
 
-const OP_WHILE: u8 = 19;
+pub const OP_WHILE: u8 = 19;
 
-const OP_END: u8 = 20;
+pub const OP_END: u8 = 20;
 
 // The place of the first marker from `first` on that stands in no inner pair: the partner of an opening step,
 // or of an else, just before `first`. Where there is none, the count of steps, or `first` if that lies behind them.

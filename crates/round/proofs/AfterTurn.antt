@@ -17,9 +17,10 @@ use Rattle.orders.proofs.Stores.{same-set}
 use Rattle.round.specs.declared.Ending.{Ending}
 use Rattle.round.specs.declared.Ending.the-variants.{Ended, Rested, Missed, Continued}
 use Rattle.round.specs.declared.Position.{Position}
+use Rattle.round.specs.declared.Turn.the-variants.{Took}
 use Rattle.round.specs.State.{State, withGame, Thing, signal, end, number, hasEnded, isThere}
 use Rattle.round.specs.Actions.{positionOf, placed}
-use Rattle.round.specs.Rounds.{Ticks, stageAfter, withEnd, behindTurn, afterTurn, took, Played, notTaken, taken, isDone}
+use Rattle.round.specs.Rounds.{Ticks, stageAfter, withEnd, behindTurn, afterTurn, Played, notTaken, taken, isDone}
 use Rattle.round.specs.Rounds.{ticksOf, turn}
 use Rattle.round.proofs.Effects.{same-end}
 use Rattle.round.proofs.Standings.{SameStanding}
@@ -32,7 +33,7 @@ going-parts true stage h = clash h refl
 going-parts false stage h = (refl, eqb-true stage continuing (sym (Bool·not-not _) ∙ h))
 
 -- the stage in which a turn that is to be continued leaves its routine is the one in which it takes turns
-going-after : (how : Ending) → not (not (eqb (stageAfter how) continuing)) ≡ not (isDone (took how))
+going-after : (how : Ending) → not (not (eqb (stageAfter how) continuing)) ≡ not (isDone (Took how))
 going-after Ended = refl
 going-after Rested = refl
 going-after Missed = refl
@@ -104,7 +105,7 @@ module _
     position-after = ap positionOf routine-after
 
     -- it takes another turn in the same round if this one is to be continued
-    pub after-going : isGoing (afterTurn r t) r ≡ not (isDone (took (t .ending)))
+    pub after-going : isGoing (afterTurn r t) r ≡ not (isDone (Took (t .ending)))
     after-going = rw (routine-after, standing-going .0, going-after (t .ending))
 
     -- what is missing behind the steps is missing behind a turn that is to be continued

@@ -19,11 +19,12 @@ use Rattle.round.specs.declared.Ending.{Ending}
 use Rattle.round.specs.declared.Ending.the-variants.{Missed, Continued}
 use Rattle.round.specs.declared.Position.{Position}
 use Rattle.round.specs.declared.Act.the-variants.{Halts}
+use Rattle.round.specs.declared.Turn.the-variants.{Took}
 use Rattle.round.specs.State.{State, withGame, Thing, Happening, missing, past, completed, isThere}
 use Rattle.round.specs.Actions.{positionOf}
 use Rattle.round.specs.Jumps.{sizeOf}
 use Rattle.round.specs.Ticks.{Tick, tick, fresh}
-use Rattle.round.specs.Rounds.{Ticks, follow, ticks, afterTurn, took, Played, taken, isDone, ticksOf, turn}
+use Rattle.round.specs.Rounds.{Ticks, follow, ticks, afterTurn, Played, taken, isDone, ticksOf, turn}
 use Rattle.round.specs.Demand.{IsPast}
 use Rattle.round.specs.Again.{TriesAgain}
 use Rattle.round.proofs.TurnLaws.{isGoing, Waits, waits-too}
@@ -85,7 +86,7 @@ module _ (book : List ℕ) where
 
     pub turn-unchanged :
         isThere s t ≡ false → s .eoi ≡ false →
-        turn book r s ≡ record { state = s; told = missing r p t ∷ []; turns = took Continued ∷ [] }
+        turn book r s ≡ record { state = s; told = missing r p t ∷ []; turns = Took Continued ∷ [] }
     turn-unchanged m unclosed =
         let (y, all) = missed-ticks m in
         let whole = subst (λ c. ticksOf book r s ≡ (if c then halted Missed y else halted Continued here)) unclosed all in
@@ -100,11 +101,11 @@ module _ (book : List ℕ) where
 
   module _ (a : Accepted book) where
     -- a try again with nothing come since leaves everything as it was and continues
-    pub tries-again : (r : ℕ) (s : State) → r < routinesOf book → turn book r s .turns ≡ took Continued ∷ [] → TriesAgain book r s
+    pub tries-again : (r : ℕ) (s : State) → r < routinesOf book → turn book r s .turns ≡ Took Continued ∷ [] → TriesAgain book r s
     tries-again r s l turns =
         let (how, out, after) = turn-out book a r s l going in
         let e : how ≡ Continued = cc in
-        let on : isGoing (turn book r s .state) r ≡ true = after ∙ ap (λ h. not (isDone (took h))) e in
+        let on : isGoing (turn book r s .state) r ≡ true = after ∙ ap (λ h. not (isDone (Took h))) e in
         let c = turn-continues book a r s l going on .1 in
         let w = c .lacks in
         record {

@@ -25,12 +25,13 @@ use Rattle.round.specs.declared.Position.{Position}
 use Rattle.round.specs.declared.Effect.{Effect}
 use Rattle.round.specs.declared.Act.{Act}
 use Rattle.round.specs.declared.Act.the-variants.{Goes, Halts}
+use Rattle.round.specs.declared.Turn.the-variants.{Took}
 use Rattle.round.specs.State.{State, Thing, signal, end, Happening, isThere}
 use Rattle.round.specs.Counting.{Among}
 use Rattle.round.specs.Actions.{positionOf, atStart}
 use Rattle.round.specs.Jumps.{sizeOf}
 use Rattle.round.specs.Ticks.{begunAt, countAt, tickAt, tick, fresh}
-use Rattle.round.specs.Rounds.{Ticks, follow, ticks, mostTicks, stageAfter, took, Played, taken, isDone, listedIn}
+use Rattle.round.specs.Rounds.{Ticks, follow, ticks, mostTicks, stageAfter, Played, taken, isDone, listedIn}
 use Rattle.round.specs.Rounds.{ticksOf, turn, historyOf}
 use Rattle.round.specs.Demand.{AsksFor}
 use Rattle.round.specs.Timed.{hasThing, isPausing, TimedRound, CountsDown}
@@ -111,14 +112,14 @@ module _
         halts-here :
             {how : Ending} {y : Position} → tickAt r steps x s st .act ≡ Halts how y →
             let v = routineAt (turn book r s .state .game) r in
-            (isGoing (turn book r s .state) r ≡ not (isDone (took how))) × (v .stage ≡ stageAfter how) × (positionOf v ≡ y)
+            (isGoing (turn book r s .state) r ≡ not (isDone (Took how))) × (v .stage ≡ stageAfter how) × (positionOf v ≡ y)
         halts-here act =
             let t = ticksOf book r s in
             let standing = turn-untouched book r s .standings r in
             let (ending, position) = first-halts (countsOf book) r steps (sizeOf steps) x s (act-here ∙ act) in
             let how = ap (λ (t : Ticks). t .ending) from-here ∙ ending in
             rw (turn-taken book r s (due .0)) (
-              after-going r s t standing (due .0) ∙ ap (λ h. not (isDone (took h))) how,
+              after-going r s t standing (due .0) ∙ ap (λ h. not (isDone (Took h))) how,
               ap (λ (v : Routine). v .stage) (routine-after r s t standing (due .0)) ∙ ap stageAfter how,
               position-after r s t standing (due .0) ∙ ap (λ (t : Ticks). t .position) from-here ∙ position,
             )

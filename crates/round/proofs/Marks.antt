@@ -1,9 +1,9 @@
--- The count of an accepted book's mark steps is that of its steps of kind mark.
--- A step's op is its kind's, so the test of the op passes at the marks alone.
+-- The marks that are told, one thing after the other. The count of an accepted book's mark steps is that of its steps of kind mark: a
+-- step's op is its kind's, so the test of the op passes at the marks alone.
 use Prim.Native.Nat.{ℕ}
-use mathlib.Core.Path.{_≡_, sym, _∙_, ap}
+use mathlib.Core.Path.{_≡_, refl, sym, _∙_, ap}
 use mathlib.Core.Bool.{true}
-use mathlib.Core.List.{List}
+use mathlib.Core.List.{List, [], _∷_, _++_}
 use mathlib.Core.Logic.{_↔_}
 use borrow.Author.Tests.{eq-eqb, eqb-true}
 use lib.Dec.{eqb}
@@ -18,9 +18,21 @@ use Rattle.layout.specs.Layout.{stepsOf, countsOf}
 use Rattle.book.specs.Book.{stepsPart}
 use Rattle.book.specs.Accepted.{Accepted}
 use Rattle.book.proofs.Routines.{step-kind}
-use Rattle.round.specs.Answers.{opMark, markSteps}
+use Rattle.round.specs.State.{Happening, gave, ended, missing, past, marked, completed}
+use Rattle.round.specs.Answers.{opMark, markSteps, marksIn}
 use Rattle.round.proofs.Counting.{Counted, counted}
 use Rattle.round.proofs.Forms.{step-op}
+
+-- marks in what happened, one thing after the other
+pub marks-append : (a b : List Happening) → marksIn (a ++ b) ≡ marksIn a ++ marksIn b
+unfolding marksIn
+marks-append [] b = refl
+marks-append (gave e k ∷ a) b = marks-append a b
+marks-append (ended r ∷ a) b = marks-append a b
+marks-append (missing r p t ∷ a) b = marks-append a b
+marks-append (past r p t ∷ a) b = marks-append a b
+marks-append (marked r n ∷ a) b = ap (λ l. (r, n) ∷ l) (marks-append a b)
+marks-append (completed r p ∷ a) b = marks-append a b
 
 -- the row of op 0
 mark-row : (op a b : ℕ) (n : ℤ) {k : Kind} → op ≡ opMark → kindOf op a b n ≡ k → k ≡ Mark n

@@ -11,10 +11,11 @@ use Rattle.game.specs.declared.Game.{Game}
 use Rattle.fitting.specs.Fits.{Fits}
 use Rattle.round.specs.declared.Ending.{Ending}
 use Rattle.round.specs.declared.Position.{Position}
+use Rattle.round.specs.declared.Turn.the-variants.{Took}
 use Rattle.round.specs.State.{State, Happening}
 use Rattle.round.specs.Counting.{howMany}
 use Rattle.round.specs.Actions.{atStart}
-use Rattle.round.specs.Rounds.{took, Played, followedBy, mostPasses, listedIn, turn, round, historyOf}
+use Rattle.round.specs.Rounds.{Played, followedBy, mostPasses, listedIn, turn, round, historyOf}
 use Rattle.round.specs.Whole.{isMiss, lacksThing}
 use Rattle.round.proofs.Acts.{Stops, ends, rests, misses, continues}
 use Rattle.round.proofs.Along.{instant-by}
@@ -33,7 +34,7 @@ misses-both a b h k = omega (arith, many-append isMiss (a .told) (b .told), many
 -- what the last step of a turn tells
 stops-miss :
     {counts : Counts} {r : ℕ} {steps : List ℕ} {x : Position} {s : State} {how : Ending} {y : Position} {told : List Happening} →
-    Stops counts r steps x s how y told → howMany isMiss told ≡ howMany lacksThing (took how ∷ [])
+    Stops counts r steps x s how y told → howMany isMiss told ≡ howMany lacksThing (Took how ∷ [])
 unfolding howMany
 stops-miss ends = refl
 stops-miss rests = refl

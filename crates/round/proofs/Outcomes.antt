@@ -10,10 +10,11 @@ use Rattle.directory.specs.Directory.{routineSteps}
 use Rattle.book.specs.Accepted.{Accepted}
 use Rattle.game.specs.Game.{routineAt}
 use Rattle.round.specs.declared.Ending.{Ending}
+use Rattle.round.specs.declared.Turn.the-variants.{Took}
 use Rattle.round.specs.State.{State}
 use Rattle.round.specs.Counting.{howMany}
 use Rattle.round.specs.Actions.{positionOf}
-use Rattle.round.specs.Rounds.{Ticks, mostTicks, afterTurn, took, isDone, ticksOf, turn}
+use Rattle.round.specs.Rounds.{Ticks, mostTicks, afterTurn, isDone, ticksOf, turn}
 use Rattle.round.specs.Whole.{isMiss}
 use Rattle.round.proofs.Histories.{none-of-both}
 use Rattle.round.proofs.Effects.{Untouched}
@@ -43,11 +44,11 @@ module _ (book : List ℕ) (a : Accepted book) where
     untouched : Untouched s (all .state)
     untouched = turn-untouched book r s
 
-    out : isGoing (afterTurn r all) r ≡ not (isDone (took (all .ending)))
+    out : isGoing (afterTurn r all) r ≡ not (isDone (Took (all .ending)))
     out = after-going r s all (untouched .standings r) going
 
     pub turn-out :
-        (h : Ending) × (turn book r s .turns ≡ took h ∷ []) × (isGoing (turn book r s .state) r ≡ not (isDone (took h)))
+        (h : Ending) × (turn book r s .turns ≡ Took h ∷ []) × (isGoing (turn book r s .state) r ≡ not (isDone (Took h)))
     turn-out = let e = turn-taken book r s going in (all .ending, ap (λ p. p .turns) e, ap (λ p. isGoing (p .state) r) e ∙ out)
 
     pub turn-continues :

@@ -15,11 +15,12 @@ use Rattle.game.specs.Game.{routineAt}
 use Rattle.round.specs.declared.Ending.{Ending}
 use Rattle.round.specs.declared.Position.{Position}
 use Rattle.round.specs.declared.Effect.{Effect}
+use Rattle.round.specs.declared.Turn.the-variants.{Took}
 use Rattle.round.specs.State.{State, Thing, Happening, ended, missing, completed}
 use Rattle.round.specs.Counting.{howMany}
 use Rattle.round.specs.Actions.{positionOf}
 use Rattle.round.specs.Ticks.{fresh}
-use Rattle.round.specs.Rounds.{ticks, took, isDone, ticksOf, turn}
+use Rattle.round.specs.Rounds.{ticks, isDone, ticksOf, turn}
 use Rattle.round.specs.Demand.{endsRoutine}
 use Rattle.round.specs.Completed.{completes}
 use Rattle.round.proofs.Counting.{one}
@@ -37,7 +38,7 @@ use Rattle.round.proofs.Turned.{turn-turned}
 -- what is left behind steps that end so, n being left at the position reached: a turn that is to be continued goes on from there in this
 -- round, and no other does
 abbrev leftBehind : Ending → ℕ → ℕ
-leftBehind how n = if not (isDone (took how)) then n else 0
+leftBehind how n = if not (isDone (Took how)) then n else 0
 
 -- what routine r has before it in a state of a round, where left says it of a routine at a position
 abbrev pub worth : (ℕ → Position → ℕ) → ℕ → State → ℕ

@@ -10,9 +10,10 @@ use Rattle.kinds.specs.Steps.{stepAt}
 use Rattle.round.specs.declared.Ending.{Ending}
 use Rattle.round.specs.declared.Ending.the-variants.{Continued}
 use Rattle.round.specs.declared.Position.{Position}
+use Rattle.round.specs.declared.Turn.the-variants.{Took}
 use Rattle.round.specs.State.{State, Thing, Happening, missing, completed, isThere}
 use Rattle.round.specs.Counting.{howMany}
-use Rattle.round.specs.Rounds.{Ticks, ticks, took, isDone}
+use Rattle.round.specs.Rounds.{Ticks, ticks, isDone}
 use Rattle.round.specs.Enough.{InTime}
 use Rattle.round.specs.Demand.{endsRoutine}
 use Rattle.round.specs.Whole.{isMiss}
@@ -37,7 +38,7 @@ module _ (counts : Counts) (r : ℕ) (steps : List ℕ) where
   -- a last step whose turn is to be continued asks for a thing that is missing, and leaves its routine where it stands
   pub stops-continued :
       {x : Position} {s : State} {how : Ending} {y : Position} {told : List Happening} → Stops counts r steps x s how y told →
-      isDone (took how) ≡ false →
+      isDone (Took how) ≡ false →
       (t : Thing) × Asks x (stepAt counts steps (x .place)) t × (isThere s t ≡ false) × (s .eoi ≡ false) × (how ≡ Continued) × (y ≡ x) ×
       (told ≡ missing r (x .place) t ∷ [])
   stops-continued ends d = clash refl d
@@ -48,7 +49,7 @@ module _ (counts : Counts) (r : ℕ) (steps : List ℕ) where
   -- any other finds nothing missing, but where the round is being closed
   pub stops-calm :
       {x : Position} {s : State} {how : Ending} {y : Position} {told : List Happening} → Stops counts r steps x s how y told →
-      isDone (took how) ≡ true → s .eoi ≡ false → howMany isMiss told ≡ 0
+      isDone (Took how) ≡ true → s .eoi ≡ false → howMany isMiss told ≡ 0
   unfolding howMany
   stops-calm ends d e = refl
   stops-calm rests d e = refl

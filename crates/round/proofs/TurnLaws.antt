@@ -17,10 +17,11 @@ use Rattle.game.specs.Game.{continuing, routineAt}
 use Rattle.round.specs.declared.Ending.{Ending}
 use Rattle.round.specs.declared.Ending.the-variants.{Continued}
 use Rattle.round.specs.declared.Position.{Position}
+use Rattle.round.specs.declared.Turn.the-variants.{Took}
 use Rattle.round.specs.State.{State, Thing, Happening, missing, isThere}
 use Rattle.round.specs.Actions.{positionOf}
 use Rattle.round.specs.Counting.{howMany, Somewhere}
-use Rattle.round.specs.Rounds.{took, notTaken, isDone, again, turn}
+use Rattle.round.specs.Rounds.{notTaken, isDone, again, turn}
 use Rattle.round.specs.Demand.{givesSignal, endsRoutine, Comes, IsPast}
 use Rattle.round.specs.Whole.{isMiss}
 use Rattle.round.proofs.Acts.{Asks}
@@ -111,7 +112,7 @@ module _ (book : List ℕ) where
     pub over : (r : ℕ) (s : State) → Listed r → Ok s → isGoing s r ≡ false → turn book r s ≡ notTaken s
     pub out :
         (r : ℕ) (s : State) → Listed r → Ok s → isGoing s r ≡ true →
-        (h : Ending) × (turn book r s .turns ≡ took h ∷ []) × (isGoing (turn book r s .state) r ≡ not (isDone (took h)))
+        (h : Ending) × (turn book r s .turns ≡ Took h ∷ []) × (isGoing (turn book r s .state) r ≡ not (isDone (Took h)))
     -- a turn that is to be continued ends by a missing thing, and there is none once the round is being closed
     pub continues :
         (r : ℕ) (s : State) → Listed r → Ok s → isGoing s r ≡ true → isGoing (turn book r s .state) r ≡ true →
@@ -125,7 +126,7 @@ module _ (book : List ℕ) where
         turn book r s .told ≡ missing r p t ∷ []
     pub unchanged :
         (r p : ℕ) (t : Thing) (s : State) → Listed r → Ok s → isGoing s r ≡ true → Waits s r p t → isThere s t ≡ false → s .eoi ≡ false →
-        turn book r s ≡ record { state = s; told = missing r p t ∷ []; turns = took Continued ∷ [] }
+        turn book r s ≡ record { state = s; told = missing r p t ∷ []; turns = Took Continued ∷ [] }
     pub goesPast :
         (r p : ℕ) (t : Thing) (s : State) → Listed r → Ok s → isGoing s r ≡ true → Waits s r p t → isThere s t ≡ true →
         IsPast r p t (turn book r s .told)

@@ -10,9 +10,11 @@ use native.Mathlib.Decide.{ℕ-discrete}
 use native.Mathlib.Omega.{arith}
 use Rattle.numbers.proofs.Tests.{and-both, not-true-false, by-flag}
 use Rattle.numbers.proofs.Tests.{clash}
+use Rattle.round.specs.declared.Turn.{Turn}
+use Rattle.round.specs.declared.Turn.the-variants.{Took}
 use Rattle.round.specs.State.{State, Happening}
 use Rattle.round.specs.Counting.{Among}
-use Rattle.round.specs.Rounds.{Turn, took, Played, followedBy, isDone, allDone, turn, pass}
+use Rattle.round.specs.Rounds.{Played, followedBy, isDone, allDone, turn, pass}
 use Rattle.round.proofs.Among.{All}
 use Rattle.round.proofs.Along.{pass-along}
 use Rattle.round.proofs.Histories.{moves-append, nothing-comes}
@@ -75,7 +77,7 @@ module _ {book : List ℕ} {Listed : ℕ → Type 0} {Ok : State → Type 0} (la
       by-flag (isGoing s r)
       (λ g.
       let (h, e, i) = laws .out r s l k g in
-      ap allDone e ∙ and-true (isDone (took h)) ∙ sym (Bool·not-not (isDone (took h))) ∙ sym (ap not i))
+      ap allDone e ∙ and-true (isDone (Took h)) ∙ sym (Bool·not-not (isDone (Took h))) ∙ sym (ap not i))
       (λ g. subst (λ (p : Played). allDone (p .turns) ≡ not (isGoing (p .state) r)) (sym (laws .over r s l k g)) (sym (ap not g)))
 
   -- a turn leaves nobody going who was not

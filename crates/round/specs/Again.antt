@@ -6,10 +6,11 @@ use mathlib.Core.List.{List, [], _∷_, _++_}
 use Rattle.game.specs.declared.Game.{Game}
 use Rattle.game.specs.Game.{routineAt}
 use Rattle.round.specs.declared.Ending.the-variants.{Continued}
+use Rattle.round.specs.declared.Turn.the-variants.{Took}
 use Rattle.round.specs.State.{State, Thing, Happening, missing, isThere}
 use Rattle.round.specs.Counting.{howMany}
 use Rattle.round.specs.Actions.{positionOf, atStart}
-use Rattle.round.specs.Rounds.{took, allDone, again, listedIn, turn, pass}
+use Rattle.round.specs.Rounds.{allDone, again, listedIn, turn, pass}
 use Rattle.round.specs.Demand.{givesSignal, endsRoutine}
 
 module _ (book : List ℕ) where
@@ -26,7 +27,7 @@ module _ (book : List ℕ) where
     pub tryAgain :
         (u : State) → let x = routineAt (turn book r s .state .game) r in let y = routineAt (u .game) r in
         y .stage ≡ x .stage → y .suspended ≡ x .suspended → positionOf y ≡ positionOf x → isThere u thing ≡ false → u .eoi ≡ false →
-        turn book r u ≡ record { state = u; told = missing r place thing ∷ []; turns = took Continued ∷ [] }
+        turn book r u ≡ record { state = u; told = missing r place thing ∷ []; turns = Took Continued ∷ [] }
 
   -- a pass of the round from game g begins in state s: the first one, or one behind a pass in which not all was done
   pub data Begins (g : Game) : State → Type 0 where

@@ -22,11 +22,13 @@ use Rattle.fit_routines.specs.Routines.{routineFits, slotFits}
 use Rattle.fitting.specs.Fitting.{isSized, fitsBook}
 use Rattle.setup.specs.SetUp.{newGame}
 use Rattle.round.specs.declared.Ending.the-variants.{Ended, Continued}
+use Rattle.round.specs.declared.Turn.{Turn}
+use Rattle.round.specs.declared.Turn.the-variants.{PassedOver, Took}
 use Rattle.round.specs.State.{signal, Happening, gave, ended, missing, past, marked, completed, numbersWith, isEndThere, isThere}
 use Rattle.round.specs.Actions.{kept, each, atStart}
 use Rattle.round.specs.Jumps.{pastPartner, openingBefore, fromEnd}
 use Rattle.round.specs.Ticks.{waitsFor, tickOf, tick, effectOn}
-use Rattle.round.specs.Rounds.{Ticks, ticks, mostTicks, Turn, passedOver, took, allDone, ticksOf, turn, pass, instant, round}
+use Rattle.round.specs.Rounds.{Ticks, ticks, mostTicks, allDone, ticksOf, turn, pass, instant, round}
 use Rattle.round.specs.Answers.{marksIn, written, roundVerdict, Answer, answer}
 
 -- a book's game from set-up
@@ -89,7 +91,7 @@ told =
     ∷ []
 
 abbrev pub turns : List Turn
-turns = took Continued ∷ took Ended ∷ took Ended ∷ passedOver ∷ []
+turns = Took Continued ∷ Took Ended ∷ Took Ended ∷ PassedOver ∷ []
 
 -- and in an accepted round the mark (0, 7) stands at the buffer's start, and what is beyond it stays; a rest at the end of a first block
 -- leaves the place on the else; and the steps of the while that does not pause run out, none of them the last

@@ -18,6 +18,8 @@ use Rattle.round.specs.declared.Ending.the-variants.{Ended, Rested, Miss
 use Rattle.round.specs.declared.Position.{Position}
 use Rattle.round.specs.declared.Act.{Act}
 use Rattle.round.specs.declared.Act.the-variants.{Goes, Halts}
+use Rattle.round.specs.declared.Turn.{Turn}
+use Rattle.round.specs.declared.Turn.the-variants.{PassedOver, Took}
 use Rattle.round.specs.State.{State, withGame, withEndSignals, withMoves, Happening, completed}
 use Rattle.round.specs.Actions.{positionOf, placed, atStart}
 use Rattle.round.specs.Jumps.{sizeOf}
@@ -77,11 +79,6 @@ afterTurn r t =
     let g = t .state .game in
     withEnd (t .ending) r (withGame (t .state) (withRoutine g r (behindTurn (routineAt g r) (t .ending) (t .position))))
 
--- what a pass does with one listed routine
-pub data Turn : Type 0 where
-  passedOver : Turn
-  took : Ending → Turn
-
 -- some turns: the state behind them, what happened, and how each came out
 pub record Played : Type 0 where
   pub state : State
@@ -90,22 +87,22 @@ pub record Played : Type 0 where
 
 -- rule 33, "Nothing is done": the routine is passed over, and the state stays s
 abbrev pub notTaken : State → Played
-notTaken s = record { state = s; told = []; turns = passedOver ∷ [] }
+notTaken s = record { state = s; told = []; turns = PassedOver ∷ [] }
 
 -- rule 34: routine r takes these steps; behind them its stage, end signal and the move flag are set (afterTurn)
 abbrev pub taken : ℕ → Ticks → Played
-taken r t = record { state = afterTurn r t; told = t .told; turns = took (t .ending) ∷ [] }
+taken r t = record { state = afterTurn r t; told = t .told; turns = Took (t .ending) ∷ [] }
 
 abbrev pub followedBy : Played → Played → Played
 followedBy a b = record { state = b .state; told = a .told ++ b .told; turns = a .turns ++ b .turns }
 
 -- the b of rules 33 and 34: false for CONT alone
 abbrev pub isDone : Turn → Bool
-isDone passedOver = true
-isDone (took Ended) = true
-isDone (took Rested) = true
-isDone (took Missed) = true
-isDone (took Continued) = false
+isDone PassedOver = true
+isDone (Took Ended) = true
+isDone (Took Rested) = true
+isDone (Took Missed) = true
+isDone (Took Continued) = false
 
 -- the b of rules 35 and 36
 unfoldable pub allDone : List Turn → Bool

@@ -20,10 +20,12 @@ use Rattle.game.specs.declared.Game.{Game}
 use Rattle.game.specs.Game.{routineAt}
 use Rattle.game.specs.Game as stage
 use Rattle.round.specs.declared.Ending.the-variants.{Ended, Rested, Missed, Continued}
+use Rattle.round.specs.declared.Turn.{Turn}
+use Rattle.round.specs.declared.Turn.the-variants.{PassedOver, Took}
 use Rattle.round.specs.State.{Thing, Happening, gave, ended, missing, past, marked, completed, isThere}
 use Rattle.round.specs.Counting.{howMany, Somewhere, Among}
 use Rattle.round.specs.Actions.{kept, positionOf, atStart}
-use Rattle.round.specs.Rounds.{Turn, passedOver, took, listedIn, round, historyOf}
+use Rattle.round.specs.Rounds.{listedIn, round, historyOf}
 use Rattle.round.specs.Demand.{isSignalStep, givesSignal, endsRoutine, AsksFor, Comes}
 use Rattle.round.specs.Answers.{marksIn}
 use Rattle.round.specs.Completed.{completes, isMarkStep}
@@ -40,11 +42,11 @@ isMiss (completed r p) = false
 
 -- a turn ended for want of a thing: to rest, or to be continued; that no turn is continued because its steps ran out is Enough.antt's claim
 abbrev pub lacksThing : Turn → Bool
-lacksThing passedOver = false
-lacksThing (took Ended) = false
-lacksThing (took Rested) = false
-lacksThing (took Missed) = true
-lacksThing (took Continued) = true
+lacksThing PassedOver = false
+lacksThing (Took Ended) = false
+lacksThing (Took Rested) = false
+lacksThing (Took Missed) = true
+lacksThing (Took Continued) = true
 
 -- what happened is of routine r; of a signal that is given the history does not tell whose it is
 abbrev pub isOf : ℕ → Happening → Bool

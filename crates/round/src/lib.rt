@@ -1,4 +1,4 @@
-// A round. No call plays one yet: here are the types in which the definitions of specs/ say what a step comes to.
+// A round: the types in which the definitions of specs/ and the code that plays say what a step comes to.
 use numbers::Sum;
 
 // How a turn ends: the routine has ended, rested, rested because what its step asks for was missing, or is to be continued. The two ways to
@@ -36,4 +36,10 @@ pub enum Effect {
 pub enum Act {
     Goes(usize, Effect),
     Halts(Ending, Position),
+}
+
+// What a pass does with one listed routine: it is passed over, or it takes a turn, which ends so.
+pub enum Turn {
+    PassedOver,
+    Took(Ending),
 }

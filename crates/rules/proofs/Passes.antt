@@ -21,10 +21,11 @@ use Rattle.game.specs.Game.{continuing, routineAt}
 use Rattle.round.specs.declared.Ending.{Ending}
 use Rattle.round.specs.declared.Ending.the-variants.{Ended, Rested, Missed, Continued}
 use Rattle.round.specs.declared.Position.{Position}
+use Rattle.round.specs.declared.Turn.the-variants.{Took}
 use Rattle.round.specs.State.{State}
 use Rattle.round.specs.Actions.{positionOf}
 use Rattle.round.specs.Jumps.{sizeOf}
-use Rattle.round.specs.Rounds.{Ticks, mostTicks, afterTurn, took, Played, notTaken, taken, allDone, again, ticksOf, turn, pass, instant}
+use Rattle.round.specs.Rounds.{Ticks, mostTicks, afterTurn, Played, notTaken, taken, allDone, again, ticksOf, turn, pass, instant}
 use Rattle.round.specs.Answers.{marksIn}
 use Rattle.round.specs.Enough.{RoundEnds}
 use Rattle.round.proofs.Among.{All}
@@ -53,7 +54,7 @@ use Rattle.rules.proofs.Seen.{suspended-seen, after-seen, actual-seen, 
 use Rattle.rules.proofs.Routines.{routine-by-rules}
 
 -- b of rule 34
-done-turn : (h : Ending) → isFinished (statusAfter h) ≡ allDone (took h ∷ [])
+done-turn : (h : Ending) → isFinished (statusAfter h) ≡ allDone (Took h ∷ [])
 unfolding allDone
 done-turn Ended = refl
 done-turn Rested = refl

@@ -1,8 +1,8 @@
 -- The steps of a turn of a routine of an accepted book, as they are taken, end as the walk of its steps does, with the marks that they tell
 -- of. Step by step: each leads from a sound state to a sound one, and one that halts the turn tells of no mark.
 use Prim.Native.Nat.{ℕ, suc}
-use mathlib.Core.Path.{_≡_, refl, ap}
-use mathlib.Core.List.{List, [], _∷_, _++_, append-assoc, append-nil}
+use mathlib.Core.Path.{_≡_, refl}
+use mathlib.Core.List.{List, [], _++_, append-assoc, append-nil}
 use Rattle.kinds.specs.declared.Counts.{Counts}
 use Rattle.layout.specs.Layout.{routinesOf, countsOf}
 use Rattle.directory.specs.Directory.{routineSteps}
@@ -10,10 +10,11 @@ use Rattle.book.specs.Accepted.{Accepted}
 use Rattle.fitting.proofs.Decides.{fit-lists}
 use Rattle.round.specs.declared.Ending.{Ending}
 use Rattle.round.specs.declared.Position.{Position}
-use Rattle.round.specs.State.{State, Happening, gave, ended, missing, past, marked, completed}
+use Rattle.round.specs.State.{State, Happening}
 use Rattle.round.specs.Rounds.{Ticks, ticks}
 use Rattle.round.specs.Answers.{marksIn}
 use Rattle.round.specs.Enough.{InTime}
+use Rattle.round.proofs.Marks.{marks-append}
 use Rattle.round.proofs.Acts.{Stops, ends, rests, misses, continues}
 use Rattle.round.proofs.Stepping.{ticks-in-time}
 use Rattle.round.proofs.Sound.{Sound}
@@ -21,16 +22,6 @@ use Rattle.round.proofs.EffectSound.{effect-sound}
 use Rattle.rules.proofs.Walks.{Marks, HasRoom, Ends, halts, goes}
 
 -- marks in what happened, one thing after the other
-marks-append : (a b : List Happening) → marksIn (a ++ b) ≡ marksIn a ++ marksIn b
-unfolding marksIn
-marks-append [] b = refl
-marks-append (gave e k ∷ a) b = marks-append a b
-marks-append (ended r ∷ a) b = marks-append a b
-marks-append (missing r p t ∷ a) b = marks-append a b
-marks-append (past r p t ∷ a) b = marks-append a b
-marks-append (marked r n ∷ a) b = ap (λ l. (r, n) ∷ l) (marks-append a b)
-marks-append (completed r p ∷ a) b = marks-append a b
-
 pub marks-then : (ms : Marks) (a b : List Happening) → (ms ++ marksIn a) ++ marksIn b ≡ ms ++ marksIn (a ++ b)
 marks-then ms a b = rw (append-assoc, ← marks-append)
 

@@ -26,6 +26,9 @@ pub const WRONG_STEP: u32 = 5;
 
 pub const WRONG_NESTING: u32 = 6;
 
+// The number that is told of a game that does not fit its book.
+pub const UNFIT: u32 = 9;
+
 // The number and the place of an answer.
 pub fn verdict_of(answer: Answer) -> Verdict
     ensures { λ r. ⌜ r ≡ verdictOf answer ⌝ }

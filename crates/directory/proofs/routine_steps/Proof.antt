@@ -11,7 +11,7 @@ use borrow.Author.Tests.{lt-leb}
 use Rattle.kinds.specs.Steps.{stepBytes}
 use Rattle.directory.specs.Directory.{stepCount, routineFrom, routinePart, routineSteps, routineStepsFrom}
 use Rattle.numbers.proofs.Parts.{rest-from}
-use Rattle.directory.proofs.Directory.{begins-there}
+use Rattle.directory.proofs.Directory.{begins-there, steps-there}
 use Rattle.directory.proofs.routine_steps.Statement.{statement}
 use Rattle.directory.proofs.routine_steps.Tie as tie
 
@@ -31,10 +31,6 @@ module _ (s : List ℕ) (r : ℕ) {from size : ℕ} (begins : from ≡ routineFr
   rest : length s < from + size → take (length s - from) (drop from s) ≡ routineSteps s r
   unfolding routinePart
   rest h = rest-from s begins ∙ rw (← begins, ← bytes) (sym (take-all size (drop from s) (omega (arith, length-drop from s))))
-
-  whole : take (from + size - from) (drop from s) ≡ routineSteps s r
-  unfolding routinePart
-  whole = let same : from + size - from ≡ size = omega arith in rw (same, begins, bytes)
 
 starts :
     (c : tie.After-step-count) →
@@ -68,7 +64,7 @@ returns-3 c =
     let at = c .before .before .before in
     let args = at .before .before .before .before .args in
     let from = there-from (args .book .now) (args .routine) (starts at) (sized at) (c .before .before .if1 .left) in
-    (whole _ _ (starts at) (sized at), (refl, omega (arith, from)))
+    (steps-there (args .book .now) (args .routine) (starts at) (sized at), (refl, omega (arith, from)))
 
 pub routine-steps-spec : {M : Type 1} → statement M
 routine-steps-spec =
