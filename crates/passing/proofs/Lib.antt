@@ -1,0 +1,7 @@
+pub mod Held
+pub mod Left
+pub mod Told
+pub mod Runs
+pub mod Turning
+pub mod OnePass
+pub mod AllPasses
