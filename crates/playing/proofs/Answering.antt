@@ -1,0 +1,79 @@
+-- What playing a round answers, check by check: the refusal of the first check that turns the round down, or the round as played.
+-- What is promised of an accepted answer holds of the definition's, and so of whatever equals it.
+use Prim.Native.Nat.{ℕ, suc, _≤_, _<_}
+use mathlib.Core.Path.{_≡_, refl, sym, subst, _∙_, ap}
+use mathlib.Core.List.{List}
+use mathlib.Core.Bool.{false}
+use native.Mathlib.Omega.{arith}
+use lib.ListN.{length}
+use lib.IntN.{ℤ}
+use Rattle.numbers.proofs.Tests.{clash}
+use Rattle.verdicts.specs.declared.Verdict.{Verdict}
+use Rattle.verdicts.specs.Verdicts.{accepted, refused}
+use Rattle.verdicts.proofs.First.{orElse-refused}
+use Rattle.book.specs.Book.{bookVerdict}
+use Rattle.book.specs.Accepted.{Accepted}
+use Rattle.game.specs.declared.Game.{Game}
+use Rattle.fitting.specs.Fitting.{fitsBook}
+use Rattle.fitting.specs.Fits.{Fits}
+use Rattle.fitting.proofs.Decides.{fits-decides}
+use Rattle.round.specs.Rounds.{round}
+use Rattle.round.specs.Answers.{Answer, spaceFor, roundVerdict, turnedDown, playedOut, answer}
+use Rattle.round.specs.Tells.{RoundTells}
+use Rattle.round.specs.Demand.{Demand3}
+use Rattle.round.proofs.Telling.{round-told-only, turned-down, played-out, answer-verdict, accepted-played}
+use Rattle.round.proofs.Demand.{round-accepted, answer-demand-3}
+use Rattle.round.proofs.After.{answer-fits}
+use Rattle.rules.specs.Claims.{ByTheRules, threadsOf}
+use Rattle.rules.proofs.Adequacy.{round-by-the-rules}
+use Rattle.playing.specs.Playing.{GivenByRules}
+
+module _ (book : List ℕ) (g : Game) (buffer : List ℤ) where
+  module _ (v : Verdict) where
+    -- this verdict turns the round down
+    abbrev Refuses : Type 0
+    Refuses = turnedDown v g buffer ≡ answer book g buffer
+
+    refuses : v ≡ roundVerdict book g buffer → (v .number ≡ 0 → ⊥) → Refuses
+    refuses e n = rw e (sym (turned-down book g buffer (rw (← e) n)))
+
+    -- 1 to 7
+    pub book-refuses : v ≡ bookVerdict book → (v .number ≡ 0 → ⊥) → Refuses
+    unfolding roundVerdict
+    book-refuses e n = refuses (e ∙ sym (orElse-refused (bookVerdict book) _ (rw (← e) n))) n
+
+    -- the others
+    told-refuses : {k : ℕ} → v ≡ refused (suc k) 0 → RoundTells book g buffer (refused (suc k) 0) → Refuses
+    told-refuses {k} e t = refuses (e ∙ sym (round-told-only t)) (λ z. omega (arith, ap (λ (w : Verdict). w .number) e, z))
+
+    pub unfit-refuses : v ≡ refused 9 0 → Accepted book → fitsBook book g ≡ false → Refuses
+    unfit-refuses e a h = told-refuses e (RoundTells.unfit a (λ f. clash (fits-decides book (a .laid .counts) g .1 f) h))
+
+    pub short-refuses : v ≡ refused 10 0 → Accepted book → Fits book g → length buffer < spaceFor book → Refuses
+    short-refuses e a f h = told-refuses e (RoundTells.short a f h)
+
+  -- 11 is never told
+  pub plays : Accepted book → Fits book g → spaceFor book ≤ length buffer → playedOut accepted (round book g) buffer ≡ answer book g buffer
+  plays a f h =
+      let e : roundVerdict book g buffer ≡ accepted = sym (answer-verdict book g buffer) ∙ round-accepted book a g f buffer h in
+      rw e at (sym (played-out book g buffer (ap (λ (v : Verdict). v .number) e)))
+
+  -- an answer that is the definition's, and what is promised of it where it is accepted
+  abbrev Promised : Answer → Type 0
+  Promised r =
+      (r ≡ answer book g buffer)
+      × ((r .verdict ≡ accepted → Demand3 book g (r .passes) (r .game))
+      × ((r .verdict ≡ accepted → Fits book (r .game))
+      × (r .verdict ≡ accepted → GivenByRules book g buffer r)))
+
+  by-the-rules : answer book g buffer .verdict ≡ accepted → GivenByRules book g buffer (answer book g buffer)
+  by-the-rules h =
+      let a = accepted-played book g buffer h .0 .0 in (
+        a,
+        λ s e.
+            subst (λ (x : Game). ByTheRules book a (threadsOf book a x) s buffer (answer book x buffer)) e
+            (round-by-the-rules book a s buffer (rw e h)),
+      )
+
+  pub promised : {r : Answer} → r ≡ answer book g buffer → Promised r
+  promised {r} e = subst Promised (sym e) (refl, (answer-demand-3 book g buffer, (answer-fits book g buffer, by-the-rules)))

@@ -1,0 +1,5 @@
+pub mod Asking
+pub mod Passes
+pub mod Marking
+pub mod Finished
+pub mod Answering
