@@ -1,8 +1,10 @@
 #!/bin/sh
-# All tests: the gate, then the C program on the example books and the C call on the vectors and on damaged books.
+# All tests: the gate, then the program that runs scripts on long ones, the C program on the example books and the C call on the vectors and
+# on damaged books.
 set -e
 cd "$(dirname "$0")/.."
 .ci/run
+tests/long_scripts.py
 examples/build.sh
 told() {
     found=$(target/check_book "examples/$1.book") || true

@@ -1,10 +1,11 @@
 #!/usr/bin/env python3
-"""Writes games that stand at the edges of document 01's clauses, as commands of the vectors and their answers.
+"""Writes games and rounds that stand at the edges of document 01's clauses, as commands of the vectors and their answers.
 
 usage: document_games.py STDIN STDOUT
 
 The two files are appended to: these lines stand at the end of crates/game_vectors/stdin and stdout. Each game is set up, changed by pokes,
-and given an order, which is turned down with 9 exactly where the game breaks a clause. The answers come from the rules.
+and given an order, which is turned down with 9 exactly where the game breaks a clause. The rounds have a buffer that is too short, long
+enough, or longer than the program's own, for as many marks as a book may have. The answers come from the rules.
 """
 
 import sys
@@ -18,6 +19,8 @@ REST_3, WAIT_2, JOIN_2, WAIT, REST_0, REST_LESS, MARK = range(7)
 STEPS = [m.rest_for(3), m.wait_for(0, 2), m.join_for(1, 2), m.wait(0), m.rest_for(0), m.rest_for(-2), m.mark(1)]
 SMALL = m.book(STEPS, [m.rest()], [], signals=2, counters=2)
 LARGEST = m.book(*[[m.rest()]] * 64, signals=64, counters=64)
+NUMBERS = range(-512, 512)
+MARKS = m.book([m.mark(number) for number in NUMBERS])
 FITS, UNFIT, UNKNOWN = "0 0", "9 0", "8 0"
 
 
@@ -159,11 +162,20 @@ def full_list():
     ]
 
 
+def buffers():
+    yield "book " + MARKS.hex(), []
+    yield "setup", ["setup 0 0"]
+    yield "round 2047", ["round 10 0 0 0"]
+    for length in (2048, 4294967295):
+        yield "setup", ["setup 0 0"]
+        yield f"round {length}", ["round 0 0 1 1024", *(f"mark 0 {number}" for number in NUMBERS)]
+
+
 def main():
     stdin, stdout = sys.argv[1:]
     with open(stdin, "a") as commands, open(stdout, "a") as answers:
         commands.write("book " + SMALL.hex() + "\n")
-        for part in (fitting, orders, refused_set_up, full_list):
+        for part in (fitting, orders, refused_set_up, full_list, buffers):
             for command, told in part():
                 commands.write(command + "\n")
                 answers.writelines(line + "\n" for line in told)

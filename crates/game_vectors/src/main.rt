@@ -1,127 +1,112 @@
 // Runs the script of the input, a command a line, on a book and a game, and prints the answers.
-// A line that is no command is told, and the script goes on.
-mod pokes;
-mod printing;
+// A line that is no command is told, and the script goes on. The input is read in pieces, so a script may be far longer than one.
+mod rounds;
 
-use digits::Number;
-use digits::Pair;
-use digits::decimal;
-use digits::read_pair;
 use game::Game;
 use game::blank_game;
-use hex::Bytes;
 use hex::LONGEST;
-use hex::read_bytes;
-use pokes::poke_field;
-use printing::print_bytes;
-use printing::print_game;
-use printing::print_verdict;
-use printing::print_wrong;
+use pieces::keep_from;
+use pieces::whole_lines;
+use rounds::round;
+use scripts::command;
+use scripts::take_book;
 use words::find;
 use words::first;
 use words::is;
 use words::part;
-use words::place_in;
 use words::rest;
+ghost use Prim.Native.Nat.{_≤_};
+ghost use lib.ListN.{length};
 
-// The bytes that are kept of the input.
-const INPUT: usize = 1048576;
+// The bytes of a piece. A line that has more, its end included, is no command.
+const PIECE: usize = 65536;
 
-// Takes the book whose digits are `text`, and answers how many bytes it has; 0 where `text` is no book.
-fn take_book(text: &[u8], book: &mut [u8; LONGEST]) -> usize {
-    let Bytes::Count(count) = read_bytes(text, book) else {
-        print_wrong();
-        return 0;
-    };
-    count
+// The most pieces that are read: those of any file.
+const MOST_PIECES: usize = 4294967296;
+
+// A byte that begins no command.
+const NO_COMMAND: u8 = b'?';
+
+// How many bytes the current book has, and the current game.
+struct State {
+    count: usize,
+    game: Game,
 }
 
-fn show(text: &[u8], book: &[u8]) {
-    let Number::Value(routine) = decimal(text) else {
-        print_wrong();
-        return;
-    };
-    io::write_all(1, b"show ");
-    print_bytes(reading::show(book, routine as usize));
-    io::write_all(1, b"\n");
-}
-
-fn set_up(book: &[u8], game: Game) -> Game {
-    let outcome = setup::set_up(book, game);
-    print_verdict(b"setup", outcome.verdict);
-    outcome.game
-}
-
-fn order(text: &[u8], book: &[u8], game: Game) -> Game {
-    let Pair::Values(kind, number) = read_pair(text, false) else {
-        print_wrong();
-        return game;
-    };
-    let outcome = ordering::order(book, game, kind, number);
-    print_verdict(b"order", outcome.verdict);
-    outcome.game
-}
-
-fn poke(text: &[u8], game: Game) -> Game {
-    let name = first(text);
-    let Pair::Values(index, value) = read_pair(rest(text), is(name, b"counter")) else {
-        print_wrong();
-        return game;
-    };
-    poke_field(game, name, index as usize, value)
-}
-
-// The game after a command of several words.
-fn long_command(line: &[u8], book: &[u8], game: Game) -> Game {
-    let text = rest(line);
-    match place_in(b"show order poke", first(line)) {
-        0 => show(text, book),
-        1 => return order(text, book, game),
-        2 => return poke(text, game),
-        _ => print_wrong(),
+// The game after a line that sets no book.
+fn run_line(line: &[u8], book: &[u8], game: Game) -> Game {
+    if is(first(line), b"round") {
+        return round(rest(line), book, game);
     }
-    game
+    command(line, book, game)
 }
 
-// The game after a command.
-fn command(line: &[u8], buffer: &[u8; LONGEST], count: usize, game: Game) -> Game {
-    let book = part(buffer, count);
-    match place_in(b"read setup dump", line) {
-        0 => print_verdict(b"read", verdicts::verdict_of(reading::read_book(book))),
-        1 => return set_up(book, game),
-        2 => print_game(game),
-        _ => return long_command(line, book, game),
-    }
-    game
-}
-
-fn play(script: &[u8]) {
-    let mut book = [0u8; LONGEST];
-    let mut count: usize = 0;
-    let mut game = blank_game();
+// Runs the lines of a text; the last one may lack its end.
+fn run_lines(script: &[u8], book: &mut [u8; LONGEST], state: State) -> State {
+    let mut count = state.count;
+    let mut game = state.game;
     let mut at: usize = 0;
     while at < script.len() {
         let end = find(script, at, b'\n');
         let line = &script[at..end];
         if is(first(line), b"book") {
-            count = take_book(rest(line), &mut book);
+            count = take_book(rest(line), book, count);
         } else {
-            game = command(line, &book, count, game);
+            game = run_line(line, part(book, count), game);
         }
         at = end + 1;
     }
+    State { count, game }
 }
 
-fn run(buffer: &mut [u8; INPUT]) {
-    let n = io::read_full(0, buffer);
-    if n == INPUT {
-        io::write_all(1, b"input too long\n");
-        return;
+// Reads on behind the bytes that are kept, and answers how many the piece has then: no more than are kept where the input has ended.
+fn read_piece(piece: &mut [u8], kept: usize) -> usize
+    requires { ⌜ kept ≤ length (now piece) ⌝ }
+    ensures { λ r. ⌜ (kept ≤ r) × (r ≤ length (now (piece .entry))) ⌝ }
+{
+    kept + io::read_full(0, &mut piece[kept..])
+}
+
+// Keeps what is left of a piece behind its whole lines for the next one, and answers how many bytes that is. Of a line that fills the piece
+// a single byte is kept, with which it is no command wherever it ends.
+fn keep_rest(piece: &mut [u8], whole: usize, end: usize) -> usize
+    requires { ⌜ end ≤ length (now piece) ⌝ }
+    ensures { λ r. ⌜ r ≤ length (now (piece .entry)) ⌝ }
+{
+    let kept = keep_from(&mut piece[0..end], whole);
+    if kept < piece.len() {
+        return kept;
     }
-    play(part(buffer, n));
+    if piece.len() == 0 {
+        return 0;
+    }
+    piece[0] = NO_COMMAND;
+    1
+}
+
+fn run(piece: &mut [u8], book: &mut [u8; LONGEST]) {
+    let mut state = State {
+        count: 0,
+        game: blank_game(),
+    };
+    let mut kept: usize = 0;
+    let mut left = MOST_PIECES;
+    while 0 < left {
+        let end = read_piece(piece, kept);
+        if end == kept {
+            run_lines(&piece[0..kept], book, state);
+            return;
+        }
+        let whole = whole_lines(&piece[0..end]);
+        state = run_lines(&piece[0..whole], book, state);
+        kept = keep_rest(piece, whole, end);
+        left -= 1;
+    }
+    io::write_all(1, b"input too long\n");
 }
 
 fn main() {
-    let mut buffer = [0u8; INPUT];
-    run(&mut buffer);
+    let mut piece = [0u8; PIECE];
+    let mut book = [0u8; LONGEST];
+    run(&mut piece, &mut book);
 }
