@@ -1,0 +1,24 @@
+#!/bin/sh
+# Builds the archives that the benches link, then compares and times, in five builds that differ in where the linker puts the functions.
+# Ends with a table: for each line that was timed, the lowest and the highest plain / library of the five.
+set -e
+cd "$(dirname "$0")/.."
+mkdir -p target
+for crate in book_c play_c round_c; do
+    rt staticlib "$crate" >target/staticlib.log 2>&1 || { cat target/staticlib.log; exit 1; }
+done
+for placement in 1 2 3 4 5; do
+    PLACEMENT=$placement cargo build --quiet --release --manifest-path benches/Cargo.toml
+    benches/target/release/benches >target/benches.$placement || { cat target/benches.$placement; exit 1; }
+    echo "build $placement:"
+    cat target/benches.$placement
+done
+echo "plain / library, lowest and highest of the five builds:"
+awk -F ': library|plain / library ' '
+    NF == 3 {
+        if (!($1 in low)) { name[++lines] = $1; low[$1] = high[$1] = $3 }
+        if ($3 < low[$1]) low[$1] = $3
+        if ($3 > high[$1]) high[$1] = $3
+    }
+    END { for (i = 1; i <= lines; i++) print name[i] ": " low[name[i]] " to " high[name[i]] }
+' target/benches.[1-5]

@@ -1,0 +1,60 @@
+//! The library's calls.
+
+use crate::game::{Game, Played};
+use crate::verdict::Verdict;
+
+extern "C" {
+    fn zulqenat_check_book(book: *const u8, length: usize) -> Verdict;
+
+    fn zulqenat_play(
+        book: *const u8,
+        length: usize,
+        game: Game,
+        marks: *mut i32,
+        room: usize,
+    ) -> Played;
+
+    fn zulqenat_round(
+        book: *const u8,
+        length: usize,
+        game: Game,
+        marks: *mut i32,
+        room: usize,
+    ) -> Played;
+}
+
+/// Reads a book.
+pub fn read(book: &[u8]) -> Verdict {
+    // SAFETY: the pointer and the length are those of a slice, which the call only reads and does not keep.
+    unsafe { zulqenat_check_book(book.as_ptr(), book.len()) }
+}
+
+/// Plays a round, after the checks.
+#[inline(always)]
+pub fn play(book: &[u8], game: Game, marks: &mut [i32]) -> Played {
+    // SAFETY: the pointers and lengths are those of two slices; the call reads the first, writes the second and keeps neither.
+    unsafe {
+        zulqenat_play(
+            book.as_ptr(),
+            book.len(),
+            game,
+            marks.as_mut_ptr(),
+            marks.len(),
+        )
+    }
+}
+
+/// Plays a round without the checks.
+///
+/// # Safety
+/// The book is accepted, the game fits it, and `marks` has room for two numbers for each of the book's mark steps.
+#[inline(always)]
+pub unsafe fn round(book: &[u8], game: Game, marks: &mut [i32]) -> Played {
+    zulqenat_round(
+        book.as_ptr(),
+        book.len(),
+        game,
+        marks.as_mut_ptr(),
+        marks.len(),
+    )
+}

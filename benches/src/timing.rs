@@ -1,0 +1,127 @@
+//! Times the library's calls beside the plain ones.
+
+use std::hint::black_box;
+use std::time::Instant;
+
+use crate::game::{Game, Played};
+use crate::timed_books::{timed_books, TimedBook};
+use crate::{books, library, plain};
+
+const BATCHES: usize = 501;
+
+/// How many nanoseconds a batch takes, about.
+const BATCH: f64 = 300_000.0;
+
+/// Nanoseconds that a piece of work takes, over one batch.
+fn batch(work: &mut impl FnMut(), repeats: usize) -> f64 {
+    let start = Instant::now();
+    for _ in 0..repeats {
+        work();
+    }
+    start.elapsed().as_nanos() as f64 / repeats as f64
+}
+
+fn median(mut times: Vec<f64>) -> f64 {
+    times.sort_by(f64::total_cmp);
+    times[times.len() / 2]
+}
+
+/// Times the same work of so many calls on both sides, a batch of each in turn, and prints the medians for a call.
+fn time(name: &str, calls: usize, mut by_library: impl FnMut(), mut by_plain: impl FnMut()) {
+    let once = batch(&mut by_library, 10).max(batch(&mut by_plain, 10));
+    let repeats = (BATCH / once).ceil() as usize;
+    let (mut library_times, mut plain_times) = (Vec::new(), Vec::new());
+    for _ in 0..BATCHES {
+        library_times.push(batch(&mut by_library, repeats) / calls as f64);
+        plain_times.push(batch(&mut by_plain, repeats) / calls as f64);
+    }
+    let (library_time, plain_time) = (median(library_times), median(plain_times));
+    println!(
+        "{name}: library {library_time:.1} ns, plain {plain_time:.1} ns, plain / library {:.2}",
+        plain_time / library_time
+    );
+}
+
+fn time_reading(name: &str, book: &[u8]) {
+    assert!(plain::read(book).is_accepted(), "{name}: not accepted");
+    time(
+        &format!("reading, {name} ({} bytes)", book.len()),
+        1,
+        || {
+            black_box(library::read(black_box(book)));
+        },
+        || {
+            black_box(plain::read(black_box(book)));
+        },
+    );
+}
+
+/// The games of a play from set-up on, each as lent to a round. Both sides have to answer each round alike.
+fn games_of(timed: &TimedBook) -> Vec<Game> {
+    let book = &timed.book;
+    let room = vec![0; 2 * plain::mark_steps(book)];
+    let mut game = Game::set_up(plain::counts(book));
+    let mut games = Vec::new();
+    for _ in 0..timed.rounds {
+        let (mut by_library, mut by_plain) = (room.clone(), room.clone());
+        let expected = plain::play(book, game, &mut by_plain);
+        let found = library::play(book, game, &mut by_library);
+        assert!(
+            expected.verdict.is_accepted(),
+            "{}: not accepted",
+            timed.name
+        );
+        assert!(
+            found == expected && by_library == by_plain,
+            "{}: answers differ",
+            timed.name
+        );
+        games.push(game);
+        game = expected.game;
+    }
+    games
+}
+
+/// Plays a round from each game. Both sides take the game by value and answer by value, and all of that is counted: copying the recorded
+/// game for the call, the call, and writing an answer with the game given back. The plain version plays on the copy that it is given.
+#[inline(always)]
+fn play_all(
+    round: impl Fn(&[u8], Game, &mut [i32]) -> Played,
+    book: &[u8],
+    games: &[Game],
+    marks: &mut [i32],
+) {
+    for game in games {
+        black_box(&round(black_box(book), *black_box(game), marks));
+    }
+}
+
+fn time_rounds(timed: &TimedBook) {
+    let (book, games) = (&timed.book, games_of(timed));
+    let mut marks = vec![0; 2 * plain::mark_steps(book)];
+    let mut plain_marks = marks.clone();
+    time(
+        &format!("{}, whole call", timed.name),
+        games.len(),
+        || play_all(library::play, book, &games, &mut marks),
+        || play_all(plain::play, book, &games, &mut plain_marks),
+    );
+    // SAFETY: the book was accepted with each of these games and with as much room.
+    let round = |book: &[u8], game, marks: &mut [i32]| unsafe { library::round(book, game, marks) };
+    time(
+        &format!("{}, round alone", timed.name),
+        games.len(),
+        || play_all(round, book, &games, &mut marks),
+        || play_all(plain::round, book, &games, &mut plain_marks),
+    );
+}
+
+/// Times reading on two books, and rounds on five.
+pub fn time_all() {
+    println!("median of {BATCHES} batches, both sides in turn, buffers warm; a ratio above 1 means that the library is faster");
+    time_reading("a largest book", &books::largest());
+    time_reading("T3", &books::t3());
+    for timed in timed_books() {
+        time_rounds(&timed);
+    }
+}
