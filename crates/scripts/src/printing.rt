@@ -10,13 +10,15 @@ use lines::MOST_ENTRIES;
 use ordering::RESUME;
 use ordering::STOP;
 use ordering::SUSPEND;
-use texts::LINE;
 use texts::print;
 use texts::put;
 use texts::put_byte;
-use texts::put_decimal;
-use texts::put_signed;
+use texts::put_numbered;
+use texts::put_signed_numbered;
 use verdicts::Verdict;
+
+// The bytes that a line has room for, its end among them: the longest line but for steps, which are printed in parts.
+const LINE: usize = 1024;
 
 pub fn print_wrong() {
     io::write_all(1, b"not a command\n");
@@ -24,8 +26,11 @@ pub fn print_wrong() {
 
 // Each number of a line has a space before it.
 fn put_number(line: &mut [u8; LINE], used: usize, n: usize) -> usize {
-    let end = put(line, used, b" ");
-    put_decimal(line, end, n as u64)
+    put_numbered(line, used, b" ", n as u64)
+}
+
+fn put_signed_number(line: &mut [u8; LINE], used: usize, n: i32) -> usize {
+    put_signed_numbered(line, used, b" ", n)
 }
 
 fn print_line(line: &mut [u8; LINE], used: usize) {
@@ -49,8 +54,7 @@ pub fn print_signed(name: &[u8], numbers: &[i32]) {
     let mut used = put(&mut line, 0, name);
     let mut at: usize = 0;
     while at < numbers.len() {
-        let end = put(&mut line, used, b" ");
-        used = put_signed(&mut line, end, numbers[at]);
+        used = put_signed_number(&mut line, used, numbers[at]);
         at += 1;
     }
     print_line(&mut line, used);
@@ -61,7 +65,16 @@ pub fn print_verdict(name: &[u8], verdict: Verdict) {
     print_numbers(name, &numbers);
 }
 
-// The digits of bytes, `-` for none. Where no more fit, those that are there are printed, and the line goes on with the next.
+// Puts a byte's digits into a line. Where they do not fit, what is there is printed, and the line goes on with them.
+fn put_or_print(line: &mut [u8; LINE], used: usize, byte: u8) -> usize {
+    if LINE - 2 < used {
+        print(line, used);
+        return put_byte(line, 0, byte);
+    }
+    put_byte(line, used, byte)
+}
+
+// The digits of bytes, `-` for none.
 pub fn print_steps(bytes: &[u8]) {
     let mut line = [0u8; LINE];
     let mut used = put(&mut line, 0, b"show ");
@@ -70,11 +83,7 @@ pub fn print_steps(bytes: &[u8]) {
     }
     let mut at: usize = 0;
     while at < bytes.len() {
-        if LINE - 2 < used {
-            print(&line, used);
-            used = 0;
-        }
-        used = put_byte(&mut line, used, bytes[at]);
+        used = put_or_print(&mut line, used, bytes[at]);
         at += 1;
     }
     print_line(&mut line, used);

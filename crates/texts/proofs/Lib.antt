@@ -1,1 +1,2 @@
-mod Full
+pub mod Behind
+pub mod Whole

@@ -28,12 +28,12 @@ fewest k n h f =
 
 returns : tie.Need-returns
 returns c =
-    let d = c .before .before .before .hex in
-    let s = c .before .before .before .before .before in
+    let d = c .before .before .before .before .before .hex in
+    let s = c .before .before .before .before .before .before .before .before in
     let text = d .ensures .1 .1 ∙ fewest (d .result) (s .args .byte) (s .fits .byte .fits) (d .ensures .1 .0) in
-    rw text at (c .put .ensures)
+    rw text at (c .before .before .put .ensures)
 
 pub put-byte-spec : {M : Type 1} → statement M
 put-byte-spec =
     tie.close
-    (tie.spec (λ c κs. tt) (λ c. search needs) (λ c. search needs) (λ c κs. tt) returns)
+    (tie.spec (λ c κs. tt) (λ c. search needs) (λ c. search needs) (λ c κs. tt) (λ c. search needs) returns)

@@ -43,12 +43,12 @@ fewest (suc (suc k)) n fits f =
 
 returns : tie.Need-returns
 returns c =
-    let d = c .before .before .before .decimal in
-    let s = c .before .before .before .before .before in
+    let d = c .before .before .before .before .before .decimal in
+    let s = c .before .before .before .before .before .before .before .before in
     let text = d .ensures .1 .1 ∙ fewest (d .result) (s .args .n) (s .fits .n .fits) (d .ensures .1 .0) in
-    rw text at (c .put .ensures)
+    rw text at (c .before .before .put .ensures)
 
 pub put-decimal-spec : {M : Type 1} → statement M
 put-decimal-spec =
     tie.close
-    (tie.spec (λ c κs. tt) (λ c. search needs) (λ c. search needs) (λ c κs. tt) returns)
+    (tie.spec (λ c κs. tt) (λ c. search needs) (λ c. search needs) (λ c κs. tt) (λ c. search needs) returns)

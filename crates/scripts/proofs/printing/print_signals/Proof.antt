@@ -19,12 +19,13 @@ print-signals-spec =
     Inv-loop
     μ-loop
     (λ c. search needs)
-    (λ c κs. tt)
-    (λ c. search needs)
     (λ c. search needs)
     (λ c κs. tt)
     (λ c. search needs)
     (λ c. search needs)
+    (λ c κs. tt)
+    (λ c. search needs)
+    (λ c. search needs)
     (λ c. search needs)
     (λ c κs. tt)
-    (λ c. tt))
+    (λ c. search needs))

@@ -7,10 +7,10 @@ use Rattle.scripts.proofs.printing.print_signed.Statement.{statement}
 use Rattle.scripts.proofs.printing.print_signed.Tie as tie
 
 abbrev Inv-loop : tie.InvT-loop
-Inv-loop name numbers line₀ used₀ at₀ t7 line used at = at ≤ length numbers
+Inv-loop name numbers line₀ used₀ at₀ line used at = at ≤ length numbers
 
 abbrev μ-loop : tie.MeasureT-loop
-μ-loop name numbers line₀ used₀ at₀ t7 line used at = length numbers - at
+μ-loop name numbers line₀ used₀ at₀ line used at = length numbers - at
 
 pub print-signed-spec : {M : Type 1} → statement M
 print-signed-spec =
@@ -18,15 +18,14 @@ print-signed-spec =
     (tie.spec
     Inv-loop
     μ-loop
-    (λ c κs. tt)
-    (λ c. search needs)
-    (λ c. search needs)
-    (λ c κs. tt)
-    (λ c. search needs)
     (λ c. search needs)
     (λ c κs. tt)
     (λ c. search needs)
     (λ c. search needs)
     (λ c. search needs)
     (λ c κs. tt)
-    (λ c. tt))
+    (λ c. search needs)
+    (λ c. search needs)
+    (λ c. search needs)
+    (λ c κs. tt)
+    (λ c. search needs))
