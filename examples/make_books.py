@@ -29,8 +29,16 @@ def add(counter, n):
     return step(2, a=counter, n=n)
 
 
+def take(counter, other):
+    return step(3, a=counter, b=other)
+
+
 def signal(number):
     return step(4, a=number)
+
+
+def signal_with(number, counter):
+    return step(5, a=number, b=counter)
 
 
 def rest():
@@ -103,6 +111,88 @@ T3 = book(
     signals=1,
 )
 
+# The two signal each other and wait for it: in round 2 both get on, and routine 1 writes the mark 5.
+T5 = book(
+    [start(1), rest(), wait(0), signal(1)],
+    [signal(0), wait(1), mark(5)],
+    signals=2,
+)
+
+# Routine 1 would rest for ever. Routine 0 stops it in round 2, waits for its end, and writes the mark 4 in round 3.
+T9 = book(
+    [start(1), rest(), stop(1), join(1), mark(4)],
+    [while_(0, EQUAL, 0), rest(), end()],
+    counters=1,
+)
+
+# Two factions: the folk of the hills raid those of the vale at each harvest, with a band that loses one each time, while the vale's mason
+# builds a wall. A mark above 0 is something won, one below 0 something lost. The wall's height is kept as a number below 0, so that a
+# raid's force less the wall is a sum. It takes nine rounds:
+#
+#   1. The hills muster a band of 3 and wait for a harvest.
+#   2. The vale brings in 8 and tells of it. The hills raid with 3. There is no wall: 4 of the harvest go to the hills.
+#   3. The mason sets the first row of stones. The vale sows, and the hills wait.
+#   4. A harvest of 8 and a raid with 2. The wall is 1 high: 4 are lost again.
+#   5. The second row.
+#   6. A harvest of 8 and a raid with 1. The wall is 2 high and holds, which the vale counts as 1 won and the hills as 2 lost.
+#   7. The third row. The hills have nobody left to raid with and take two rounds over what to do.
+#   8. No mark: the mason has no more to do and ends, and the vale waits for word of peace, for three rounds at most.
+#   9. The hills offer peace and wait for the vale to be done. The vale takes it, and both win 10.
+HILLS, VALE, MASON = range(3)
+HARVEST, RAID, ANSWER, PEACE = range(4)
+BAND, LUCK, FORCE, WALL = range(4)
+FACTIONS = book(
+    [
+        start(VALE),
+        start(MASON),
+        set_counter(BAND, 3),
+        mark(3),
+        while_(BAND, GREATER, 0),
+        wait(HARVEST),
+        signal_with(RAID, BAND),
+        read(ANSWER, LUCK, 1),
+        if_(LUCK, GREATER, 0),
+        mark(4),
+        else_(),
+        mark(-2),
+        end(),
+        add(BAND, -1),
+        rest(),
+        end(),
+        rest_for(2),
+        signal(PEACE),
+        join(VALE),
+        mark(10),
+    ],
+    [
+        while_(FORCE, GREATER, -1),
+        mark(8),
+        signal(HARVEST),
+        read(RAID, FORCE, 1),
+        take(FORCE, WALL),
+        if_(FORCE, GREATER, 0),
+        mark(-4),
+        else_(),
+        mark(1),
+        end(),
+        signal_with(ANSWER, FORCE),
+        rest_for(2),
+        end(),
+        wait_for(PEACE, 3),
+        mark(10),
+    ],
+    [
+        while_(WALL, GREATER, -3),
+        rest(),
+        add(WALL, -1),
+        mark(1),
+        rest(),
+        end(),
+    ],
+    signals=4,
+    counters=4,
+)
+
 # Without a rest the while would go round for ever in one round: refused 7, at the while, step 1.
 ENDLESS = book(
     [mark(1), while_(0, EQUAL, 0), add(0, 0), end()],
@@ -117,7 +207,14 @@ WRONG_STEP = book(
 
 def main():
     folder = Path(__file__).parent
-    for name, content in (("t3", T3), ("endless", ENDLESS), ("wrong_step", WRONG_STEP)):
+    for name, content in (
+        ("t3", T3),
+        ("t5", T5),
+        ("t9", T9),
+        ("factions", FACTIONS),
+        ("endless", ENDLESS),
+        ("wrong_step", WRONG_STEP),
+    ):
         (folder / (name + ".book")).write_bytes(content)
 
 

@@ -1,7 +1,7 @@
 #!/usr/bin/env python3
 """Prints the books that the rules themselves give as examples, a line each: number, place, bytes in hexadecimal.
 
-These lines stand at the end of crates/book_vectors/stdin. The numbers and places come from the rules.
+These lines stand at the end of crates/book_vectors/stdin. The numbers and places come from the rules. document_plays.py plays these books.
 """
 
 import sys
@@ -14,14 +14,26 @@ import make_books as m
 LOOP = m.while_(0, m.EQUAL, 0)
 BRANCH = m.if_(0, m.EQUAL, 0)
 
+T1 = m.book([])
+T2 = m.book([m.rest()])
+T3 = m.T3
+T4 = m.book([m.start(1), m.rest(), m.signal(0)], [m.wait(0), m.mark(3)], signals=1)
+T5 = m.T5
+T6 = m.book([m.wait_for(0, 1), m.mark(9)], signals=1)
+T7 = m.book([m.read(0, 0, 1)], signals=1, counters=1)
+T8 = m.book([m.start(1)], [m.wait(0)], signals=1)
+T9 = m.T9
+T10 = m.book([m.start(1), m.rest(), m.stop(1), m.rest(), m.rest(), m.join(1), m.mark(4)], [LOOP, m.rest(), m.end()], counters=1)
+T11 = m.book([m.set_counter(0, 999999), m.add(0, 2), m.set_counter(1, -1000000), m.add(1, -1)], counters=2)
+
 
 def looped(*body):
     """A while with this body, behind a mark, so that it stands at step 1."""
     return m.book([m.mark(1), LOOP, *body, m.end()], signals=1, counters=1)
 
 
-def nested_ifs(depth):
-    return m.book([BRANCH] * depth + [m.end()] * depth, counters=1)
+def nested_ifs(depth, *inside):
+    return m.book([BRANCH] * depth + [*inside] + [m.end()] * depth, counters=1)
 
 
 def nested_whiles(depth):
@@ -63,23 +75,15 @@ def nesting():
 
 def set_plays():
     """T1 to T11: all are accepted."""
-    endless_rest = [LOOP, m.rest(), m.end()]
-    for play in (
-        m.book([]),
-        m.book([m.rest()]),
-        m.T3,
-        m.book([m.start(1), m.rest(), m.signal(0)], [m.wait(0), m.mark(3)], signals=1),
-        m.book([m.start(1), m.rest(), m.wait(0), m.signal(1)], [m.signal(0), m.wait(1), m.mark(5)], signals=2),
-        m.book([m.wait_for(0, 1), m.mark(9)], signals=1),
-        m.book([m.read(0, 0, 1)], signals=1, counters=1),
-        m.book([m.start(1)], [m.wait(0)], signals=1),
-        m.book([m.start(1), m.rest(), m.stop(1), m.join(1), m.mark(4)], endless_rest, counters=1),
-        m.book([m.start(1), m.rest(), m.stop(1), m.rest(), m.rest(), m.join(1), m.mark(4)], endless_rest, counters=1),
-        m.book([m.set_counter(0, 999999), m.add(0, 2), m.set_counter(0, -1000000), m.add(0, -1)], counters=1),
-    ):
+    for play in (T1, T2, T3, T4, T5, T6, T7, T8, T9, T10, T11):
         yield 0, 0, play
 
 
-for group in (limits, pauses, nesting, set_plays):
-    for number, place, content in group():
-        print(number, place, content.hex())
+def main():
+    for group in (limits, pauses, nesting, set_plays):
+        for number, place, content in group():
+            print(number, place, content.hex())
+
+
+if __name__ == "__main__":
+    main()

@@ -3,9 +3,10 @@
 
 usage: document_games.py STDIN STDOUT
 
-The two files are appended to: these lines stand at the end of crates/game_vectors/stdin and stdout. Each game is set up, changed by pokes,
-and given an order, which is turned down with 9 exactly where the game breaks a clause. The rounds have a buffer that is too short, long
-enough, or longer than the program's own, for as many marks as a book may have. The answers come from the rules.
+The two files are appended to: these lines stand behind the vectors' plays in crates/game_vectors/stdin and stdout. Each game is set up,
+changed by pokes, and given an order, which is turned down with 9 exactly where the game breaks a clause, or where a field was given what its
+type cannot hold. The rounds have a buffer that is too short, long enough, or longer than the program's own, for as many marks as a book may
+have. The answers come from the rules.
 """
 
 import sys
@@ -22,6 +23,8 @@ LARGEST = m.book(*[[m.rest()]] * 64, signals=64, counters=64)
 NUMBERS = range(-512, 512)
 MARKS = m.book([m.mark(number) for number in NUMBERS])
 FITS, UNFIT, UNKNOWN = "0 0", "9 0", "8 0"
+LARGEST_VALUES = {"stage": 255, "place": 65535, "listed": 255, "tostart": 255}
+LARGEST_VALUES |= dict.fromkeys(("susp", "begun", "tostop", "tosuspend", "toresume", "broadcast"), 1)
 
 
 def counts():
@@ -90,18 +93,46 @@ def counts_left():
             yield FITS, [here, ("begun", 0, 1)]
             yield FITS, [here, ("begun", 0, 1), ("left", 0, count - 1)]
         yield UNFIT, [here, ("begun", 0, 1), ("left", 0, count)]
-        yield UNFIT, [here, ("begun", 0, 1), ("left", 0, 4294967295)]
+        yield UNFIT, [here, ("begun", 0, 1), ("left", 0, 2147483647)]
     for field in ("susp", "tostop", "tosuspend", "toresume"):
         yield FITS, [(field, 2, 1)]
 
 
 def fitting():
+    yield "book " + SMALL.hex(), []
     for clause in (counts, beyond, ranges, lists, counts_left):
         for told, pokes in clause():
             yield "setup", ["setup 0 0"]
             for poke in pokes:
                 yield "poke %s %d %d" % poke, []
             yield "order 0 0", ["order " + told]
+
+
+def unheld():
+    """With a value that its type cannot hold a field stands for a game that does not fit, until it is overwritten or the game set up."""
+    yield "setup", ["setup 0 0"]
+    lent = {"R": 3, "E": 2, "C": 2, "tostart_len": 1}
+    for field in (*LARGEST_VALUES, *lent, "left", "listed_len"):
+        larger = (LARGEST_VALUES[field] + 1, 2147483647) if field in LARGEST_VALUES else ()
+        for value in (*larger, -1, -2147483648):
+            yield f"poke {field} 1 {value}", []
+            yield "order 0 0", ["order " + UNFIT]
+            yield f"poke {field} 1 {lent.get(field, 0)}", []
+            yield "order 0 0", ["order " + FITS]
+    yield "poke susp 1 2", []
+    yield "poke broadcast 1 -1", []
+    yield "poke susp 1 1", []
+    yield "round 2", [f"round {UNFIT} 0 0"]
+    yield "book -", []
+    yield "setup", ["setup 1 0"]
+    yield "round 2", ["round 1 0 0 0"]
+    yield "book " + SMALL.hex(), []
+    yield "order 0 0", ["order " + UNFIT]
+    yield "setup", ["setup 0 0"]
+    yield "order 0 0", ["order " + FITS]
+    for wrong in ("susp 64 2", "broadcast 64 2", "none 0 2", "stage 0 2147483648", "stage 0"):
+        yield "poke " + wrong, ["not a command"]
+    yield "order 0 0", ["order " + FITS]
 
 
 def orders():
@@ -171,15 +202,15 @@ def buffers():
         yield f"round {length}", ["round 0 0 1 1024", *(f"mark 0 {number}" for number in NUMBERS)]
 
 
-def main():
+def append(*parts):
+    """Adds the commands of these parts to the first file, and their answers to the second."""
     stdin, stdout = sys.argv[1:]
     with open(stdin, "a") as commands, open(stdout, "a") as answers:
-        commands.write("book " + SMALL.hex() + "\n")
-        for part in (fitting, orders, refused_set_up, full_list, buffers):
+        for part in parts:
             for command, told in part():
                 commands.write(command + "\n")
                 answers.writelines(line + "\n" for line in told)
 
 
 if __name__ == "__main__":
-    main()
+    append(fitting, unheld, orders, refused_set_up, full_list, buffers)

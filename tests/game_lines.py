@@ -3,9 +3,9 @@
 
 usage: game_lines.py PLAYS.IN PLAYS.OUT STDIN STDOUT
 
-The lines log and facts are left out, for they ask how a round went and not for its answer; all others stay as they are, with their
-answers. A poke with a value that the field's type cannot hold is left out too, and so is every order, round and dump until that field is
-overwritten or the game set up anew.
+The lines log and facts are left out, for they ask how a round went and not for its answer. After a poke with a value that the field's type
+cannot hold so is every dump, which may show it, until that field is overwritten or the game set up anew. All others stay as they are, with
+their answers.
 """
 import sys
 
@@ -46,15 +46,14 @@ def select(steps):
         word, *rest = command.split()
         if word == "poke":
             field = (rest[0], rest[1])
-            if not holds(rest[0], int(rest[2])):
+            if holds(rest[0], int(rest[2])):
+                unheld.discard(field)
+            else:
                 unheld.add(field)
-                continue
-            unheld.discard(field)
         if told == ["setup 0 0"]:
             unheld.clear()
-        if word in ("log", "facts") or unheld and word in ("order", "round", "dump"):
-            continue
-        yield command, told
+        if word not in ("log", "facts") and not (word == "dump" and unheld):
+            yield command, told
 
 
 def main():

@@ -2,14 +2,15 @@
 // A line that is no command is told, and the script goes on. The input is read in pieces, so a script may be far longer than one.
 mod rounds;
 
-use game::Game;
 use game::blank_game;
 use hex::LONGEST;
 use pieces::keep_from;
 use pieces::whole_lines;
 use rounds::round;
+use scripts::Poked;
 use scripts::command;
 use scripts::take_book;
+use scripts::unpoked;
 use words::find;
 use words::first;
 use words::is;
@@ -30,21 +31,21 @@ const NO_COMMAND: u8 = b'?';
 // How many bytes the current book has, and the current game.
 struct State {
     count: usize,
-    game: Game,
+    poked: Poked,
 }
 
 // The game after a line that sets no book.
-fn run_line(line: &[u8], book: &[u8], game: Game) -> Game {
+fn run_line(line: &[u8], book: &[u8], poked: Poked) -> Poked {
     if is(first(line), b"round") {
-        return round(rest(line), book, game);
+        return round(rest(line), book, poked);
     }
-    command(line, book, game)
+    command(line, book, poked)
 }
 
 // Runs the lines of a text; the last one may lack its end.
 fn run_lines(script: &[u8], book: &mut [u8; LONGEST], state: State) -> State {
     let mut count = state.count;
-    let mut game = state.game;
+    let mut poked = state.poked;
     let mut at: usize = 0;
     while at < script.len() {
         let end = find(script, at, b'\n');
@@ -52,11 +53,11 @@ fn run_lines(script: &[u8], book: &mut [u8; LONGEST], state: State) -> State {
         if is(first(line), b"book") {
             count = take_book(rest(line), book, count);
         } else {
-            game = run_line(line, part(book, count), game);
+            poked = run_line(line, part(book, count), poked);
         }
         at = end + 1;
     }
-    State { count, game }
+    State { count, poked }
 }
 
 // Reads on behind the bytes that are kept, and answers how many the piece has then: no more than are kept where the input has ended.
@@ -87,7 +88,7 @@ fn keep_rest(piece: &mut [u8], whole: usize, end: usize) -> usize
 fn run(piece: &mut [u8], book: &mut [u8; LONGEST]) {
     let mut state = State {
         count: 0,
-        game: blank_game(),
+        poked: unpoked(blank_game()),
     };
     let mut kept: usize = 0;
     let mut left = MOST_PIECES;

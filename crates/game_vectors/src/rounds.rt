@@ -1,9 +1,11 @@
 // A round, played with a buffer for its marks.
 use digits::Number;
 use digits::decimal;
-use game::Game;
 use layout::MOST_STEPS;
 use playing::Played;
+use scripts::Poked;
+use scripts::given;
+use scripts::lent;
 use scripts::print_numbers;
 use scripts::print_signed;
 use scripts::print_wrong;
@@ -54,24 +56,24 @@ fn print_round(played: Played) {
     print_numbers(b"round", &numbers);
 }
 
-fn play(book: &[u8], game: Game, numbers: &mut [i32]) -> Game {
-    let played = playing::play(book, game, numbers);
+fn play(book: &[u8], poked: Poked, numbers: &mut [i32]) -> Poked {
+    let played = playing::play(book, lent(poked), numbers);
     print_round(played);
     print_marks(numbers, played.marks);
     check_rest(numbers, played.marks);
-    played.game
+    given(poked, played.game)
 }
 
 // The game after a round with a buffer of so many numbers as `text` says.
-pub fn round(text: &[u8], book: &[u8], game: Game) -> Game {
+pub fn round(text: &[u8], book: &[u8], poked: Poked) -> Poked {
     let Number::Value(length) = decimal(text) else {
         print_wrong();
-        return game;
+        return poked;
     };
     let mut numbers = [UNTOUCHED; LONGEST_BUFFER];
     let asked = length as usize;
     if asked < LONGEST_BUFFER {
-        return play(book, game, &mut numbers[0..asked]);
+        return play(book, poked, &mut numbers[0..asked]);
     }
-    play(book, game, &mut numbers)
+    play(book, poked, &mut numbers)
 }

@@ -6,11 +6,14 @@ use digits::Number;
 use digits::Pair;
 use digits::decimal;
 use digits::read_pair;
-use game::Game;
 use hex::Bytes;
 use hex::LONGEST;
 use hex::read_bytes;
+pub use pokes::Poked;
+pub use pokes::given;
+pub use pokes::lent;
 use pokes::poke_field;
+pub use pokes::unpoked;
 use printing::print_game;
 pub use printing::print_numbers;
 pub use printing::print_signed;
@@ -18,7 +21,6 @@ use printing::print_steps;
 use printing::print_verdict;
 pub use printing::print_wrong;
 use words::first;
-use words::is;
 use words::place_in;
 use words::rest;
 
@@ -40,50 +42,54 @@ fn show(text: &[u8], book: &[u8]) {
     print_steps(reading::show(book, routine as usize));
 }
 
-fn set_up(book: &[u8], game: Game) -> Game {
-    let outcome = setup::set_up(book, game);
+fn set_up(book: &[u8], poked: Poked) -> Poked {
+    let outcome = setup::set_up(book, poked.game);
     print_verdict(b"setup", outcome.verdict);
-    outcome.game
+    if outcome.verdict.number == 0 {
+        return unpoked(outcome.game);
+    }
+    let game = outcome.game;
+    let unheld = poked.unheld;
+    Poked { game, unheld }
 }
 
-fn order(text: &[u8], book: &[u8], game: Game) -> Game {
+fn order(text: &[u8], book: &[u8], poked: Poked) -> Poked {
     let Pair::Values(kind, number) = read_pair(text, false) else {
         print_wrong();
-        return game;
+        return poked;
     };
-    let outcome = ordering::order(book, game, kind, number);
+    let outcome = ordering::order(book, lent(poked), kind, number);
     print_verdict(b"order", outcome.verdict);
-    outcome.game
+    given(poked, outcome.game)
 }
 
-fn poke(text: &[u8], game: Game) -> Game {
-    let name = first(text);
-    let Pair::Values(index, value) = read_pair(rest(text), is(name, b"counter")) else {
+fn poke(text: &[u8], poked: Poked) -> Poked {
+    let Pair::Values(index, value) = read_pair(rest(text), true) else {
         print_wrong();
-        return game;
+        return poked;
     };
-    poke_field(game, name, index as usize, value)
+    poke_field(poked, first(text), index as usize, value)
 }
 
 // The game after a command of several words.
-fn long_command(line: &[u8], book: &[u8], game: Game) -> Game {
+fn long_command(line: &[u8], book: &[u8], poked: Poked) -> Poked {
     let text = rest(line);
     match place_in(b"show order poke", first(line)) {
         0 => show(text, book),
-        1 => return order(text, book, game),
-        2 => return poke(text, game),
+        1 => return order(text, book, poked),
+        2 => return poke(text, poked),
         _ => print_wrong(),
     }
-    game
+    poked
 }
 
 // The game after a command.
-pub fn command(line: &[u8], book: &[u8], game: Game) -> Game {
+pub fn command(line: &[u8], book: &[u8], poked: Poked) -> Poked {
     match place_in(b"read setup dump", line) {
         0 => print_verdict(b"read", verdicts::verdict_of(reading::read_book(book))),
-        1 => return set_up(book, game),
-        2 => print_game(game),
-        _ => return long_command(line, book, game),
+        1 => return set_up(book, poked),
+        2 => print_game(poked.game),
+        _ => return long_command(line, book, poked),
     }
-    game
+    poked
 }

@@ -1,8 +1,12 @@
-// Pokes: one field of a game is overwritten. A name that no field has, an index past the end and a value that the field
-// cannot hold are told, and leave the game as it is. A field goes by the place of its name in a list.
+// Pokes: one field of a game is overwritten, with any signed number of 32 bits. A name that no field has and an index past the end are
+// told, and leave the game as it is. A field goes by the place of its name in a list.
+//
+// A number that the field's type cannot hold stands for a game that fits no book. A field that is a number then gets one that fits none; a
+// flag has no such value, and is noted beside the game.
 use crate::printing::print_wrong;
 use game::Game;
 use game::Routine;
+use game::blank_game;
 use layout::MOST_COUNTERS;
 use layout::MOST_ROUTINES;
 use layout::MOST_SIGNALS;
@@ -10,37 +14,75 @@ use lines::Line;
 use lines::MOST_ENTRIES;
 use words::place_in;
 
-// The largest value that a field of a routine can hold, by the field's place in `poke_routine`.
-fn most_of(field: usize) -> u32 {
-    match field {
-        0 => 255,
-        1 => 65535,
-        2 => 4294967295,
-        _ => 1,
+// How many flags a routine has.
+const ROUTINE_FLAGS: usize = 5;
+
+// The flags of a game: a row of routines for each of theirs, then the signals to broadcast.
+const SIGNAL_FLAGS: usize = ROUTINE_FLAGS * MOST_ROUTINES;
+
+const FLAGS: usize = SIGNAL_FLAGS + MOST_SIGNALS;
+
+// A game, and which of its flags were last overwritten with a number other than 0 and 1.
+pub struct Poked {
+    pub game: Game,
+    pub unheld: [bool; FLAGS],
+}
+
+// A game with no such flag.
+pub fn unpoked(game: Game) -> Poked {
+    Poked {
+        game,
+        unheld: [false; FLAGS],
     }
 }
 
-fn poke_routine(routine: Routine, name: &[u8], value: u32) -> Routine {
-    let mut next = routine;
-    let field = place_in(
-        b"stage place left susp begun tostop tosuspend toresume",
-        name,
-    );
-    if most_of(field) < value {
-        print_wrong();
-        return next;
+fn has_unheld(poked: Poked) -> bool {
+    let unheld = poked.unheld;
+    for at in 0..FLAGS {
+        if unheld[at] {
+            return true;
+        }
     }
-    // The value fits its field: the remainders are the value.
+    false
+}
+
+// The game that an order or a round is lent: the blank one, which fits no book, in place of one with such a flag.
+pub fn lent(poked: Poked) -> Game {
+    if has_unheld(poked) {
+        return blank_game();
+    }
+    poked.game
+}
+
+// What an order or a round that gave this game back leaves: a game that it was not lent stays.
+pub fn given(poked: Poked, game: Game) -> Poked {
+    if has_unheld(poked) {
+        return poked;
+    }
+    unpoked(game)
+}
+
+// What a byte and a number of 16 bits get: the largest, which fits no book, in place of a number that they cannot hold.
+fn byte(value: u32) -> u8 {
+    if value < 255 { value as u8 } else { 255 }
+}
+
+fn half(value: u32) -> u16 {
+    if value < 65535 { value as u16 } else { 65535 }
+}
+
+fn poke_routine(routine: Routine, field: usize, value: u32) -> Routine {
+    let mut next = routine;
     let flag = value == 1;
     match field {
-        0 => next.stage = (value % 256) as u8,
-        1 => next.place = (value % 65536) as u16,
-        2 => next.left = value,
-        3 => next.suspended = flag,
-        4 => next.begun = flag,
-        5 => next.stopping = flag,
-        6 => next.suspending = flag,
-        7 => next.resuming = flag,
+        0 => next.suspended = flag,
+        1 => next.begun = flag,
+        2 => next.stopping = flag,
+        3 => next.suspending = flag,
+        4 => next.resuming = flag,
+        5 => next.stage = byte(value),
+        6 => next.place = half(value),
+        7 => next.left = value,
         _ => print_wrong(),
     }
     next
@@ -48,13 +90,21 @@ fn poke_routine(routine: Routine, name: &[u8], value: u32) -> Routine {
 
 fn poke_routines(
     routines: [Routine; MOST_ROUTINES],
+    unheld: &mut [bool; FLAGS],
     name: &[u8],
     index: usize,
     value: u32,
 ) -> [Routine; MOST_ROUTINES] {
     let mut next = routines;
+    let field = place_in(
+        b"susp begun tostop tosuspend toresume stage place left",
+        name,
+    );
     if index < MOST_ROUTINES {
-        next[index] = poke_routine(routines[index], name, value);
+        next[index] = poke_routine(routines[index], field, value);
+        if field < ROUTINE_FLAGS {
+            unheld[field * MOST_ROUTINES + index] = 1 < value;
+        }
         return next;
     }
     print_wrong();
@@ -83,30 +133,35 @@ fn poke_counters(counters: [i32; MOST_COUNTERS], index: usize, word: u32) -> [i3
 fn poke_line(line: Line, index: usize, value: u32) -> Line {
     let mut next = line;
     if index < MOST_ENTRIES {
-        if value < 256 {
-            next.items[index] = value as u8;
-            return next;
-        }
+        next.items[index] = byte(value);
+        return next;
     }
     print_wrong();
     next
 }
 
-fn poke_signals(signals: [bool; MOST_SIGNALS], index: usize, value: u32) -> [bool; MOST_SIGNALS] {
+fn poke_signals(
+    signals: [bool; MOST_SIGNALS],
+    unheld: &mut [bool; FLAGS],
+    index: usize,
+    value: u32,
+) -> [bool; MOST_SIGNALS] {
     let mut next = signals;
     if index < MOST_SIGNALS {
-        if value < 2 {
-            next[index] = value == 1;
-            return next;
-        }
+        next[index] = value == 1;
+        unheld[SIGNAL_FLAGS + index] = 1 < value;
+        return next;
     }
     print_wrong();
     next
 }
 
-// The game with a field overwritten, a counter by the two's complement of its value. The index counts where there are several.
-pub fn poke_field(game: Game, name: &[u8], index: usize, value: u32) -> Game {
+// Overwrites a field with the number whose two's complement is `value`; that of a negative one is larger than any that fits a book. The
+// index counts where there are several.
+pub fn poke_field(poked: Poked, name: &[u8], index: usize, value: u32) -> Poked {
+    let game = poked.game;
     let mut next = game;
+    let mut unheld = poked.unheld;
     let number = value as usize;
     match place_in(
         b"R E C listed_len tostart_len listed tostart broadcast counter",
@@ -127,7 +182,7 @@ pub fn poke_field(game: Game, name: &[u8], index: usize, value: u32) -> Game {
         }
         7 => {
             let signals = game.broadcast;
-            let changed = poke_signals(signals, index, value);
+            let changed = poke_signals(signals, &mut unheld, index, value);
             next.broadcast = changed;
         }
         8 => {
@@ -137,9 +192,9 @@ pub fn poke_field(game: Game, name: &[u8], index: usize, value: u32) -> Game {
         }
         _ => {
             let routines = game.routines;
-            let changed = poke_routines(routines, name, index, value);
+            let changed = poke_routines(routines, &mut unheld, name, index, value);
             next.routines = changed;
         }
     }
-    next
+    Poked { game: next, unheld }
 }

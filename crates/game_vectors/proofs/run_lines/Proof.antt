@@ -7,10 +7,10 @@ use Rattle.game_vectors.proofs.run_lines.Statement.{statement}
 use Rattle.game_vectors.proofs.run_lines.Tie as tie
 
 abbrev Inv-loop : tie.InvT-loop
-Inv-loop script book₀ count₀ game₀ at₀ t9 book count game at = at ≤ length script + 1
+Inv-loop script book₀ count₀ poked₀ at₀ t9 book count poked at = at ≤ length script + 1
 
 abbrev μ-loop : tie.MeasureT-loop
-μ-loop script book₀ count₀ game₀ at₀ t9 book count game at = length script + 1 - at
+μ-loop script book₀ count₀ poked₀ at₀ t9 book count poked at = length script + 1 - at
 
 pub run-lines-spec : {M : Type 1} → statement M
 run-lines-spec =
