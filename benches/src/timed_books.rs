@@ -1,4 +1,4 @@
-//! The books whose rounds are timed. But for T3's, their routines loop for ever and rest once a round or more often.
+//! The books whose rounds are timed. But for T3's and one empty routine, their routines loop for ever and rest once a round or more often.
 
 use crate::books::{book, t3};
 use crate::game::LIMIT;
@@ -140,24 +140,31 @@ fn counting_routine(r: u8) -> Vec<Step> {
     steps
 }
 
-/// A largest book: 16 routines of 64 steps, of all kinds, most of them played in every round.
+/// The routine of the largest book that has no steps: it ends in round 2, and the others may join, stop and suspend it.
+const EMPTY: u8 = 16;
+
+/// A largest book: 16 routines of 64 steps, of all kinds, most of them played in every second round, and an empty one.
 fn largest() -> Vec<u8> {
-    let routines: Vec<Vec<Step>> = (0..16).map(routine_of_64).collect();
+    let mut routines: Vec<Vec<Step>> = (0..EMPTY).map(routine_of_64).collect();
+    routines.push(Vec::new());
     book(&routines, 64, 64)
 }
 
 fn routine_of_64(r: u8) -> Vec<Step> {
-    let mut steps = if r == 0 { starts(16) } else { Vec::new() };
+    let mut steps = if r == 0 { starts(17) } else { Vec::new() };
     steps.push(for_ever(0));
-    for i in 0..(54 - steps.len()) / 11 {
+    for i in 0..(51 - steps.len()) / 11 {
         steps.extend(eleven_steps(r, i as u8));
     }
-    steps.resize(54, step(MARK, 0, 0, 50 + i32::from(r)));
+    steps.resize(51, step(MARK, 0, 0, 50 + i32::from(r)));
     steps.extend([
         step(SIGNAL, 4 * r, 0, 0),
         step(WAIT, 4 * ((r + 1) % 16), 0, 0),
         step(WAIT_FOR, 4 * ((r + 5) % 16), 0, 2),
         step(JOIN_FOR, (r + 3) % 16, 0, 1),
+        step(JOIN, EMPTY, 0, 0),
+        step(STOP, EMPTY, 0, 0),
+        step(SUSPEND, EMPTY, 0, 0),
         step(REST_FOR, 0, 0, 0),
         step(START, (r + 1) % 16, 0, 0),
         step(RESUME, r, 0, 0),

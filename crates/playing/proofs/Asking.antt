@@ -1,11 +1,12 @@
 -- What passes ask is so for an accepted book, from every sound state behind whose passes there is room for the numbers given. The book's
 -- routines and their steps lie within it. Numbers are never taken back, so there is room behind each turn. A turn leaves a game that fits,
 -- so the tables have room for where its routine stands.
-use Prim.Native.Nat.{ℕ, zero, suc, _<_, _^_}
+use Prim.Native.Nat.{ℕ, zero, suc, _<_}
 use mathlib.Core.Path.{_≡_, refl, ap}
 use mathlib.Core.Bool.{false, not}
 use mathlib.Core.List.{List, [], _∷_}
 use native.Mathlib.Omega.{arith}
+use Rattle.numbers.specs.Numbers.{wordLimit}
 use Rattle.numbers.proofs.Tests.{by-flag, clash}
 use Rattle.kinds.specs.declared.Kind.{Kind}
 use Rattle.kinds.specs.declared.Step.{Step}
@@ -37,7 +38,7 @@ use Rattle.passing.specs.Turns.{Roomy, PositionFits, Ready, isPassedOver}
 use Rattle.passing.specs.Passes.{PassAsks, PassesAsk}
 
 -- the n of a timed step
-timed-within : {st : Step} {n : ℕ} → Timed st n → ((k : Kind) → st ≡ step.Kind k → Within k) → n < 2 ^ 32
+timed-within : {st : Step} {n : ℕ} → Timed st n → ((k : Kind) → st ≡ step.Kind k → Within k) → n < wordLimit
 timed-within restFor within = within _ refl
 timed-within waitFor within = within _ refl .1
 timed-within joinFor within = within _ refl .1

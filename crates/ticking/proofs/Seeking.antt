@@ -14,6 +14,7 @@ use lib.Signed.{leZ}
 use lib.ListN.{length, getD, take, drop, length-take, length-drop, drop-of-length-le}
 use lib.Seq.{drop-cons, drop-drop, getD-take, getD-drop}
 use Rattle.numbers.specs.Choice.{if_then_else_}
+use Rattle.numbers.specs.Numbers.{wordLimit}
 use Rattle.numbers.proofs.Tests.{by-flag}
 use Rattle.layout.specs.Layout.{mostSignals}
 use Rattle.tables.specs.Tables.{firstOf, pairsOf}
@@ -30,7 +31,7 @@ same-signal (pos a) e h =
       | yes l ↦ let n : a < e = omega arith in rw (f, le-leb a e l, lt-leb e a n)
       | no l ↦ rw (f, lt-leb a e (omega arith))
     ])
-same-signal (negsuc a) e h = rw (ne-eqb (4294967296 + a) e (λ s. omega arith))
+same-signal (negsuc a) e h = rw (ne-eqb (wordLimit + a) e (λ s. omega arith))
 
 pairs-read :
     (l : List ℤ) (i : ℕ) (d : ℕ × ℤ) → i < length l / 2 →
