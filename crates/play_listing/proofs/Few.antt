@@ -1,0 +1,43 @@
+-- A round has no more marks than a book may have steps, whatever it is played on: a refused round has none, and an accepted one no more
+-- than the buffer that 10 asks for holds.
+use Prim.Native.Nat.{ℕ, _*_, _≤_}
+use mathlib.Core.Path.{_≡_}
+use mathlib.Core.List.{List}
+use native.Mathlib.Decide.{ℕ-discrete}
+use native.Mathlib.Omega.{arith}
+use lib.Dec.{eqb}
+use lib.IntN.{ℤ}
+use lib.ListN.{length}
+use Rattle.kinds.specs.Steps.{opAt}
+use Rattle.verdicts.specs.declared.Verdict.{Verdict}
+use Rattle.layout.specs.Layout.{stepsOf, mostSteps}
+use Rattle.book.specs.Book.{stepsPart}
+use Rattle.book.specs.Accepted.{Accepted}
+use Rattle.game.specs.declared.Game.{Game}
+use Rattle.round.specs.Rounds.{historyOf}
+use Rattle.round.specs.Answers.{opMark, marksIn, numbersPerMark, spaceFor, roundVerdict, answer}
+use Rattle.round.specs.Tells.{RoundTells}
+use Rattle.round.proofs.Counting.{count-all}
+use Rattle.round.proofs.Once.{completed-once}
+use Rattle.round.proofs.Telling.{round-tells, turned-down, played-out}
+
+-- the buffer that 10 asks for is never longer than one for as many marks as a book may have steps
+pub space-few : (book : List ℕ) → Accepted book → spaceFor book ≤ numbersPerMark * mostSteps
+space-few book a =
+    let all = count-all (λ p. eqb (opAt (stepsPart book) p) opMark) (stepsOf book) in
+    omega (arith, all, a .laid .counts .fewSteps)
+
+module _ (book : List ℕ) (g : Game) (buffer : List ℤ) where
+  told-few : {v : Verdict} → RoundTells book g buffer v → v .number ≡ 0 → length (marksIn (historyOf book g)) ≤ mostSteps
+  told-few (RoundTells.book t) e = absurd (omega arith)
+  told-few (RoundTells.unfit a m) e = absurd (omega arith)
+  told-few (RoundTells.short a f h) e = absurd (omega arith)
+  told-few (RoundTells.tooMany a f h m) e = absurd (omega arith)
+  told-few (RoundTells.nothing a f h m) e = omega (arith, completed-once book a g f .space, space-few book a)
+
+  pub marks-few : answer book g buffer .marks ≤ mostSteps
+  marks-few =
+      elim (ℕ-discrete (roundVerdict book g buffer .number) 0) [
+        | yes z ↦ rw (played-out book g buffer z) (told-few (round-tells book g buffer) z)
+        | no n ↦ rw (turned-down book g buffer n) (omega arith)
+      ]

@@ -1,0 +1,4 @@
+pub mod Few
+pub mod Long
+pub mod Prints
+pub mod Short
