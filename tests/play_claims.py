@@ -510,8 +510,8 @@ use Rattle.book.specs.Book.{bookVerdict}
 use Rattle.numbers.specs.Below.{allBelow, anyBelow, sumBelow}
 use Rattle.lines.specs.Lines.{isIn, appended}
 use Rattle.game.specs.Game.{blankGame, withStart}
-use Rattle.fit_arrays.specs.Arrays.{entryFits, lineFits, countersFit, signalsFit}
-use Rattle.fit_routines.specs.Routines.{routineFits, slotFits}
+use Rattle.fitting.specs.Arrays.{entryFits, lineFits, countersFit, signalsFit}
+use Rattle.fitting.specs.Routines.{routineFits, slotFits}
 use Rattle.fitting.specs.Fitting.{isSized, fitsBook}
 use Rattle.setup.specs.SetUp.{newGame}
 use Rattle.orders.specs.Orders.{obeyed}

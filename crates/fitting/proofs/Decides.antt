@@ -20,8 +20,8 @@ use Rattle.game.specs.declared.Routine.{Routine}
 use Rattle.game.specs.declared.Game.{Game}
 use Rattle.lines.specs.Lines.{mostEntries}
 use Rattle.game.specs.Game.{blank, routineAt, Sized}
-use Rattle.fit_arrays.specs.Arrays.{countersFit, signalsFit}
-use Rattle.fit_routines.specs.Routines.{slotFits}
+use Rattle.fitting.specs.Arrays.{countersFit, signalsFit}
+use Rattle.fitting.specs.Routines.{slotFits}
 use Rattle.fitting.specs.Fitting.{sameCounts, fitsBook}
 use Rattle.fitting.specs.Fits.{In, BothLists, Fits}
 use Rattle.fitting.proofs.Tests.{not-less, equal, fails, and-then, both, or-else, by-order, each}

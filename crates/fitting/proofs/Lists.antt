@@ -11,7 +11,7 @@ use lib.ListN.{set}
 use borrow.Author.Tests.{lt-ltb, le-ltb}
 use Rattle.lines.specs.declared.Line.{Line}
 use Rattle.lines.specs.Lines.{mostEntries, itemAt, usedOf, isIn}
-use Rattle.fit_arrays.specs.Arrays.{firstOf, entryFits, lineFits}
+use Rattle.fitting.specs.Arrays.{firstOf, entryFits, lineFits}
 use Rattle.fitting.specs.Fits.{In}
 use Rattle.fitting.proofs.Tests.{less, at-most, equal, denied, both, by-order, each, some}
 

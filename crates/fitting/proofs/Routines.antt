@@ -13,7 +13,7 @@ use Rattle.forms.proofs.Timed.{timed}
 use Rattle.directory.specs.Directory.{stepCount, routineStep}
 use Rattle.game.specs.declared.Routine.{Routine}
 use Rattle.game.specs.Game.{notStarted, continuing, rested, ended, stopped, blank}
-use Rattle.fit_routines.specs.Routines.{isBlank, stageFits, routineFits}
+use Rattle.fitting.specs.Routines.{isBlank, stageFits, routineFits}
 use Rattle.fitting.proofs.Tests.{less, at-most, equal, fails, refuted, denied, both, choice}
 
 -- stages 1 and 2, and stages 0 and 4

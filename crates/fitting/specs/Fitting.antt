@@ -1,5 +1,5 @@
--- The test whether a game fits a book, as it is carried out but for the lengths that types fix. Where the book's counts are in range, it
--- decides Fits.
+-- Whether a game fits a book, as a test of each of its slots in turn. Where the book's counts are in range, it decides Fits. The lengths of
+-- the arrays are fixed by types, and nothing has to be done to test them.
 use Prim.Native.Nat.{ℕ}
 use mathlib.Core.Bool.{Bool, _&&_}
 use mathlib.Core.List.{List}
@@ -10,8 +10,8 @@ use Rattle.layout.specs.Layout.{mostRoutines, mostSignals, mostCounters, counts
 use Rattle.game.specs.declared.Game.{Game}
 use Rattle.numbers.specs.Below.{allBelow}
 use Rattle.lines.specs.Lines.{mostEntries}
-use Rattle.fit_arrays.specs.Arrays.{lineFits, countersFit, signalsFit}
-use Rattle.fit_routines.specs.Routines.{slotFits}
+use Rattle.fitting.specs.Arrays.{lineFits, countersFit, signalsFit}
+use Rattle.fitting.specs.Routines.{slotFits}
 
 -- "its numbers of routines, counters and signals are the book's"
 abbrev pub sameCounts : Counts → Counts → Bool

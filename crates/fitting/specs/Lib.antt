@@ -1,2 +1,4 @@
 pub mod Fits
+pub mod Arrays
+pub mod Routines
 pub mod Fitting

@@ -12,8 +12,8 @@ use Rattle.book.specs.Book.{stepsVerdict, routineWalk, nestingVerdict, pausingV
 use Rattle.book.specs.Examples.{t3}
 use Rattle.lines.specs.Lines.{isIn, appended}
 use Rattle.game.specs.Game.{blankGame, withStart}
-use Rattle.fit_arrays.specs.Arrays.{entryFits, lineFits, countersFit, signalsFit}
-use Rattle.fit_routines.specs.Routines.{routineFits, slotFits}
+use Rattle.fitting.specs.Arrays.{entryFits, lineFits, countersFit, signalsFit}
+use Rattle.fitting.specs.Routines.{routineFits, slotFits}
 use Rattle.fitting.specs.Fitting.{isSized, fitsBook}
 use Rattle.setup.specs.SetUp.{newGame, setUp}
 use Rattle.round.specs.State.{numbersWith, isEndThere, isThere}

@@ -1,0 +1,59 @@
+-- The flags that a list's entries leave, one by one: behind the first n entries they tell which routines are among those.
+-- A flag that is set is that of the entry; the others stay as they were.
+use Prim.Native.Nat.{ℕ, _+_, _<_, _≤_}
+use mathlib.Core.Path.{_≡_, refl, sym, subst, _∙_}
+use mathlib.Core.Bool.{Bool, true, false, and-false, or-true, or-false}
+use mathlib.Core.List.{List}
+use native.Mathlib.Omega.{arith}
+use native.Mathlib.Decide.{ℕ-discrete}
+use native.Mathlib.Numerals.{add-one}
+use borrow.Author.Tests.{lt-ltb, le-ltb, eq-eqb, ne-eqb}
+use lib.Dec.{eqb}
+use lib.ListN.{length, getD, set, getD-replicate}
+use lib.Seq.{getD-set-same, getD-set-other}
+use Rattle.numbers.specs.Numbers.{byteLimit}
+use Rattle.numbers.specs.Below.{anyBelow}
+use Rattle.lines.specs.declared.Line.{Line}
+use Rattle.lines.specs.Lines.{mostEntries, itemAt, isIn}
+use Rattle.fitting.specs.Arrays.{firstOf, entryFits, unmarked, Marks}
+use Rattle.fitting.proofs.Lists.{used-all}
+
+module _ (l : Line) where
+  in-first : (n : ℕ) → n ≤ mostEntries → (r : ℕ) → isIn (firstOf l n) r ≡ anyBelow n (λ i. eqb (itemAt l i) r)
+  unfolding isIn
+  in-first n h r = rw (used-all (firstOf l n) h)
+
+  pub marks-none : (seen : List Bool) → seen ≡ unmarked → Marks seen (firstOf l 0)
+  unfolding anyBelow
+  marks-none seen none r h = rw none (getD-replicate byteLimit r false false h ∙ sym (in-first 0 (omega arith) r))
+
+  pub marks-next :
+      (seen : List Bool) (n : ℕ) → n < mostEntries → itemAt l n < length seen → Marks seen (firstOf l n) →
+      Marks (set seen (itemAt l n) true) (firstOf l (n + 1))
+  unfolding anyBelow
+  marks-next seen n h inside so-far r small =
+      rw (in-first (n + 1) (omega arith) r, add-one)
+      (elim (ℕ-discrete (itemAt l n) r) [
+        | yes e ↦ rw (← e, getD-set-same seen (itemAt l n) true false inside, eq-eqb (itemAt l n) (itemAt l n) refl, or-true)
+        | no d ↦
+            rw (ne-eqb (itemAt l n) r d, or-false)
+            (getD-set-other seen (itemAt l n) r true false (λ e. d (sym e)) ∙ so-far r small ∙ in-first n (omega arith) r)
+      ])
+
+  pub marks-all : (seen : List Bool) {n : ℕ} → n ≤ l .len → l .len ≤ n → Marks seen (firstOf l n) → Marks seen l
+  marks-all seen {n} h k marks = let e : n ≡ l .len = omega arith in subst (λ (m : ℕ). Marks seen (firstOf l m)) e marks
+
+  -- entry i, behind the flags of those before it
+  module _ (routines : ℕ) {i : ℕ} (used : i < l .len) where
+    pub entry-beyond : routines ≤ itemAt l i → entryFits l routines i ≡ false
+    unfolding entryFits
+    entry-beyond h = rw (lt-ltb i (l .len) used, le-ltb (itemAt l i) routines h)
+
+    module _ (seen : List Bool) (marks : Marks seen (firstOf l i)) (small : itemAt l i < byteLimit) where
+      pub entry-twice : getD seen (itemAt l i) false ≡ true → entryFits l routines i ≡ false
+      unfolding entryFits
+      entry-twice h = rw (lt-ltb i (l .len) used, ← (marks (itemAt l i) small), h, and-false)
+
+      pub entry-new : itemAt l i < routines → getD seen (itemAt l i) false ≡ false → entryFits l routines i ≡ true
+      unfolding entryFits
+      entry-new k h = rw (lt-ltb i (l .len) used, lt-ltb (itemAt l i) routines k, ← (marks (itemAt l i) small), h)
