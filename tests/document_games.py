@@ -4,9 +4,9 @@
 usage: document_games.py STDIN STDOUT
 
 The two files are appended to: these lines stand behind the vectors' plays in crates/game_vectors/stdin and stdout. Each game is set up,
-changed by pokes, and given an order, which is turned down with 9 exactly where the game breaks a clause, or where a field was given what its
-type cannot hold. The rounds have a buffer that is too short, long enough, or longer than the program's own, for as many marks as a book may
-have. The answers come from the rules.
+changed by pokes, and given an order, which is turned down with 9 exactly where the game breaks a clause, or where a field was given what
+its type cannot hold. The rounds have a buffer that is too short, long enough, or longer than the program's own, for as many marks as a book
+may have. The answers come from the rules.
 """
 
 import sys

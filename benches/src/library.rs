@@ -6,6 +6,8 @@ use crate::verdict::Verdict;
 extern "C" {
     fn zulqenat_check_book(book: *const u8, length: usize) -> Verdict;
 
+    fn zulqenat_fits(book: *const u8, length: usize, game: Game) -> bool;
+
     fn zulqenat_play(
         book: *const u8,
         length: usize,
@@ -27,6 +29,13 @@ extern "C" {
 pub fn read(book: &[u8]) -> Verdict {
     // SAFETY: the pointer and the length are those of a slice, which the call only reads and does not keep.
     unsafe { zulqenat_check_book(book.as_ptr(), book.len()) }
+}
+
+/// Whether a game fits a book.
+#[inline(always)]
+pub fn fits(book: &[u8], game: Game) -> bool {
+    // SAFETY: the pointer and the length are those of a slice, which the call only reads and does not keep.
+    unsafe { zulqenat_fits(book.as_ptr(), book.len(), game) }
 }
 
 /// Plays a round, after the checks.

@@ -53,6 +53,12 @@ pub fn read(book: &[u8]) -> Verdict {
     reading::check(book).err().unwrap_or(Verdict::ACCEPTED)
 }
 
+/// Whether a game fits an accepted book.
+#[inline(never)]
+pub fn fits(book: &[u8], game: Game) -> bool {
+    fitting::fits(book, &game)
+}
+
 /// The checks of a round, 1 to 7, 9 and 10.
 fn check(book: &[u8], game: &Game, room: usize) -> Check {
     let refuse = |number| Err(Verdict { number, place: 0 });

@@ -96,32 +96,51 @@ fn play_all(
     }
 }
 
-fn time_rounds(timed: &TimedBook) {
-    let (book, games) = (&timed.book, games_of(timed));
+/// Tests whether each game fits, which it does. Both sides take the game by value.
+#[inline(always)]
+fn fit_all(fits: impl Fn(&[u8], Game) -> bool, book: &[u8], games: &[Game]) {
+    for game in games {
+        assert!(fits(black_box(book), *black_box(game)));
+    }
+}
+
+fn time_fitting(timed: &TimedBook, games: &[Game]) {
+    time(
+        &format!("{}, fitting", timed.name),
+        games.len(),
+        || fit_all(library::fits, &timed.book, games),
+        || fit_all(plain::fits, &timed.book, games),
+    );
+}
+
+fn time_rounds(timed: &TimedBook, games: &[Game]) {
+    let book = &timed.book;
     let mut marks = vec![0; 2 * plain::mark_steps(book)];
     let mut plain_marks = marks.clone();
     time(
         &format!("{}, whole call", timed.name),
         games.len(),
-        || play_all(library::play, book, &games, &mut marks),
-        || play_all(plain::play, book, &games, &mut plain_marks),
+        || play_all(library::play, book, games, &mut marks),
+        || play_all(plain::play, book, games, &mut plain_marks),
     );
     // SAFETY: the book was accepted with each of these games and with as much room.
     let round = |book: &[u8], game, marks: &mut [i32]| unsafe { library::round(book, game, marks) };
     time(
         &format!("{}, round alone", timed.name),
         games.len(),
-        || play_all(round, book, &games, &mut marks),
-        || play_all(plain::round, book, &games, &mut plain_marks),
+        || play_all(round, book, games, &mut marks),
+        || play_all(plain::round, book, games, &mut plain_marks),
     );
 }
 
-/// Times reading on two books, and rounds on five.
+/// Times reading on two books, and fitting and rounds on five.
 pub fn time_all() {
     println!("median of {BATCHES} batches, both sides in turn, buffers warm; a ratio above 1 means that the library is faster");
     time_reading("a largest book", &books::largest());
     time_reading("T3", &books::t3());
     for timed in timed_books() {
-        time_rounds(&timed);
+        let games = games_of(&timed);
+        time_fitting(&timed, &games);
+        time_rounds(&timed, &games);
     }
 }
