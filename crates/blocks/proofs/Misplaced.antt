@@ -62,6 +62,10 @@ atLast (opens []) = opens []
 atLast (opens (o ∷ os)) = wrong (Misnested (openingOf o))
 atLast (wrong f) = wrong f
 
+unreadable-wrong : (x : Scan) (p : ℕ) → (f : Fault) × (onward x unreadable p ≡ wrong f)
+unreadable-wrong (opens os) p = (Unreadable p, refl)
+unreadable-wrong (wrong f) p = (f, refl)
+
 module _ (at : ℕ → View) where
   scan : ℕ → Scan
   scan zero = opens []
@@ -88,6 +92,14 @@ module _ (at : ℕ → View) where
   reached-scan (Reached.else {p = p} r h) = scan-next p (reached-scan r) h refl
   reached-scan (Reached.while {os = os} {p = p} r h l) = scan-next p (reached-scan r) h (rw (lt-ltb (length os) deepest l))
   reached-scan (Reached.end {p = p} r h) = scan-next p (reached-scan r) h refl
+
+  -- no step before a place that is reached is unreadable
+  pub reached-readable : {os : List Open} (p q : ℕ) → Reached at os p → q < p → at q ≡ unreadable → ⊥
+  unfolding scan
+  reached-readable p q r l h =
+      let w = unreadable-wrong (scan q) q in
+      let z : _≡_ {A = ℕ} 0 1 = cc (reached-scan r, scan-wrong {f = w .0} (suc q) p (rw h (w .1)) l) in
+      omega arith
 
   module _ (n : ℕ) (out : (p : ℕ) → n ≤ p → at p ≡ beyond) (inside : (p : ℕ) → p < n → at p ≡ beyond → ⊥) where
     -- a fault at a place of the routine is the last word

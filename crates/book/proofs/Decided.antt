@@ -100,7 +100,7 @@ no-kind : (x : Step) (i : ℕ) → ((k : Kind) → x ≡ step.Kind k → ⊥) �
 no-kind (step.Kind k) i h = absurd (h k refl)
 no-kind step.Refused i h = refl
 
-kind-seen : {x : Step} {k : Kind} → x ≡ step.Kind k → seen x ≡ unreadable → ⊥
+pub kind-seen : {x : Step} {k : Kind} → x ≡ step.Kind k → seen x ≡ unreadable → ⊥
 kind-seen e u = let z : _≡_ {A = ℕ} 0 1 = cc in omega arith
 
 -- check 5

@@ -1,7 +1,7 @@
 -- The first refusal of a row of tests is accepted if no test refuses, and otherwise it is the answer of the lowest place that does.
 -- By the number of places, after the laws of one answer or else another, which are by cases on whether the first accepts.
 use Prim.Native.Nat.{ℕ, zero, suc, _+_, _-_, _≤_, _<_}
-use mathlib.Core.Path.{_≡_, refl, _∙_, ap}
+use mathlib.Core.Path.{_≡_, refl, sym, _∙_, ap}
 use native.Mathlib.Nat.{sub-zero, sub-eq-zero-of-le}
 use native.Mathlib.Omega.{arith}
 use native.Mathlib.Decide.{ℕ-discrete}
@@ -28,6 +28,13 @@ orElse-past v w e = orElse-clear v w (ap (λ u. u .number) e)
 
 pub orElse-told : (v w : Verdict) {k p : ℕ} → v ≡ refused (suc k) p → (v orElse w) ≡ refused (suc k) p
 orElse-told v w e = orElse-refused v w (λ z. omega (arith, ap (λ u. u .number) e, z)) ∙ e
+
+pub orElse-again : (v w : Verdict) → (v orElse v orElse w) ≡ (v orElse w)
+orElse-again v w =
+    elim (ℕ-discrete (v .number) 0) [
+      | yes e ↦ orElse-clear v (v orElse w) e
+      | no n ↦ orElse-refused v (v orElse w) n ∙ sym (orElse-refused v w n)
+    ]
 
 -- what holds at j, and at each place from j + 1 to e, holds at each from j to e
 with-first : (P : ℕ → Type 0) (j e : ℕ) → P j → ((k : ℕ) → j + 1 ≤ k → k < e → P k) → (k : ℕ) → j ≤ k → k < e → P k
