@@ -14,9 +14,8 @@ use verdicts::Verdict;
 use verdicts::told;
 use verdicts::verdict_of;
 ghost use mathlib.Core.Path.{_≡_};
-ghost use Prim.Native.Nat.{_<_};
 ghost use Rattle.setup.specs.SetUp.{GivesFitting};
-ghost use Rattle.orders.specs.Orders.{orderCount, mostCounts, orderVerdict, obeyed, ordered};
+ghost use Rattle.orders.specs.Orders.{orderCount, orderVerdict, ordered};
 
 // The kinds of an order.
 pub const BROADCAST: u32 = 0;
@@ -50,9 +49,9 @@ fn order_count(counts: Counts, kind: u32) -> usize
 fn order_verdict(book: &[u8], game: Game, kind: u32, number: u32) -> Verdict
     ensures { λ r. ⌜ r ≡ orderVerdict (now (book .entry)) game kind number ⌝ }
 {
-    let verdict = verdict_of(read_book(book));
-    if verdict.number != 0 {
-        return verdict;
+    let read = verdict_of(read_book(book));
+    if read.number != 0 {
+        return read;
     }
     if !fits(book, game) {
         return told(UNFIT, 0);
@@ -60,50 +59,50 @@ fn order_verdict(book: &[u8], game: Game, kind: u32, number: u32) -> Verdict
     if order_count(counts_of(book), kind) <= number as usize {
         return told(WRONG_ORDER, 0);
     }
-    verdict
-}
-
-// A game with an order in its list or set for the next round. The number is a place in the array that the order's kind names.
-fn obey(game: Game, kind: u32, number: usize) -> Game
-    requires { ⌜ number < orderCount mostCounts kind ⌝ }
-    ensures { λ r. ⌜ r ≡ obeyed game kind number ⌝ }
-{
-    let mut next = game;
-    if kind == BROADCAST {
-        next.broadcast[number] = true;
-        return next;
-    }
-    let x = game.routines[number];
-    match kind {
-        START => {
-            let starting = game.starting;
-            next.starting = with_start(starting, number as u8, x.stage);
-        }
-        STOP => {
-            next.routines[number] = with_stop(x);
-        }
-        SUSPEND => {
-            next.routines[number] = with_suspend(x);
-        }
-        RESUME => {
-            next.routines[number] = with_resume(x);
-        }
-        _ => {}
-    }
-    next
+    read
 }
 
 // Gives a game an outside order for the next round; a refusal hands the game back as lent. The kind and the number may be anything.
+// The game that is handed back is copied ahead of the checks, with the list that a start may lengthen, and the order is written into it:
+// behind the checks the game would be copied more often.
 pub fn order(book: &[u8], game: Game, kind: u32, number: u32) -> Outcome
     ensures { λ r. ⌜ (r ≡ ordered (now (book .entry)) game kind number) × GivesFitting (now (book .entry)) r ⌝ }
 {
+    let mut next = game;
+    let starting = game.starting;
     let verdict = order_verdict(book, game, kind, number);
-    if verdict.number == 0 {
-        let next = obey(game, kind, number as usize);
+    if verdict.number != 0 {
         return Outcome {
             verdict,
             game: next,
         };
     }
-    Outcome { verdict, game }
+    let at = number as usize;
+    if kind == BROADCAST {
+        next.broadcast[at] = true;
+        return Outcome {
+            verdict,
+            game: next,
+        };
+    }
+    let x = next.routines[at];
+    match kind {
+        START => {
+            next.starting = with_start(starting, number as u8, x.stage);
+        }
+        STOP => {
+            next.routines[at] = with_stop(x);
+        }
+        SUSPEND => {
+            next.routines[at] = with_suspend(x);
+        }
+        RESUME => {
+            next.routines[at] = with_resume(x);
+        }
+        _ => {}
+    }
+    Outcome {
+        verdict,
+        game: next,
+    }
 }
