@@ -2,9 +2,8 @@
 
 use std::path::Path;
 
-/// The crates with the exported calls. Fitting and the round alone have archives of their own: a function with two callers would not be
-/// compiled into either.
-const CRATES: [&str; 4] = ["book_c", "fit_c", "play_c", "round_c"];
+/// The crates with the exported calls. Each call has an archive of its own: a function with two callers would not be compiled into either.
+const CRATES: [&str; 6] = ["book_c", "fit_c", "setup_c", "order_c", "play_c", "round_c"];
 
 /// Has the linker put the functions in another order for each number in the variable PLACEMENT, since where code lies moves its times.
 fn place() {

@@ -1,4 +1,4 @@
-//! Books: how one is put together, the vectors, and the two that are read for time.
+//! Books: how one is put together, the vectors, T3's, and a largest one that is read for time.
 
 use crate::game::LIMIT;
 use crate::steps::*;

@@ -1,9 +1,9 @@
-//! Holds the library's rounds to the plain ones on random plays.
+//! Holds the library's set-ups, orders and rounds to the plain ones on random plays.
 
 use crate::game::{Game, Played, MOST_STEPS};
 use crate::random::Random;
 use crate::random_books::{damage, random_book};
-use crate::random_plays::{displace, order, poke};
+use crate::random_plays::{displace, poke, random_order};
 use crate::steps::{bare, MARK, SIGNAL_NUMBER};
 use crate::{books, library, plain};
 
@@ -14,16 +14,16 @@ const SHOWN: usize = 10;
 /// Numbers kept behind the buffer that is lent, to see that they stay as they are.
 const BEHIND: usize = 4;
 
-/// A call that plays a round.
-type Call = fn(&[u8], Game, &mut [i32]) -> Played;
+/// A call on a book and a game, and on a buffer, which only a round uses.
+type Call<'a> = &'a dyn Fn(&[u8], Game, &mut [i32]) -> Played;
 
 /// What a call answers, with the buffer and what is behind it.
 type Answer = (Played, Vec<i32>);
 
-/// What is lent to a call, in a round of a play.
+/// What is lent to a call.
 struct Case<'a> {
     name: &'a str,
-    book: &'a [u8],
+    book: Vec<u8>,
     game: Game,
     buffer: Vec<i32>,
 }
@@ -32,13 +32,13 @@ impl Case<'_> {
     fn answer(&self, call: Call) -> Answer {
         let mut buffer = self.buffer.clone();
         let room = buffer.len() - BEHIND;
-        (call(self.book, self.game, &mut buffer[..room]), buffer)
+        (call(&self.book, self.game, &mut buffer[..room]), buffer)
     }
 }
 
-/// How often each number was answered, what the accepted rounds came to, and how many answers were different.
-#[derive(Default)]
+/// How often each number was answered to calls of a kind, what the accepted ones came to, and how many answers were different.
 struct Tally {
+    calls: &'static str,
     numbers: [usize; 12],
     passes: usize,
     marks: usize,
@@ -46,6 +46,16 @@ struct Tally {
 }
 
 impl Tally {
+    fn new(calls: &'static str) -> Tally {
+        Tally {
+            calls,
+            numbers: [0; 12],
+            passes: 0,
+            marks: 0,
+            differ: 0,
+        }
+    }
+
     /// Holds a call to the answer that is expected.
     fn hold(&mut self, call_name: &str, call: Call, case: &Case, expected: &Answer) {
         let found = case.answer(call);
@@ -63,29 +73,71 @@ impl Tally {
                 } = played;
                 format!("{verdict}, {passes} passes, {marks} marks")
             };
-            println!("{}, {call_name}: {}", case.name, told(&found));
+            println!(
+                "{}, {}, {call_name}: {}",
+                case.name,
+                self.calls,
+                told(&found)
+            );
             println!("expected: {}", told(expected));
             println!("game the same: {}", found.0.game == expected.0.game);
             println!("buffer the same: {}", found.1 == expected.1);
-            println!("book: {}", books::digits(case.book));
+            println!("book: {}", books::digits(&case.book));
         }
     }
 
-    /// Plays a round on both sides; where it is accepted, without the checks as well.
-    fn compare(&mut self, case: &Case) -> Played {
-        let expected = case.answer(plain::play);
-        self.hold("library", library::play, case, &expected);
+    /// Holds the library's call to the plain one.
+    fn compare(&mut self, case: &Case, by_library: Call, by_plain: Call) -> Answer {
+        let expected = case.answer(by_plain);
+        self.hold("library", by_library, case, &expected);
         let played = expected.0;
-        if played.verdict.is_accepted() {
-            // SAFETY: the plain call has checked book, game and room.
-            let round: Call = |book, game, marks| unsafe { library::round(book, game, marks) };
-            self.hold("library, round alone", round, case, &expected);
-            self.hold("plain, round alone", plain::round, case, &expected);
-        }
         self.numbers[played.verdict.number as usize] += 1;
         self.passes += played.passes;
         self.marks += played.marks;
+        expected
+    }
+
+    fn set_up(&mut self, case: &Case) {
+        self.compare(
+            case,
+            &|book, game, _| library::set_up(book, game).into(),
+            &|book, game, _| plain::set_up(book, game).into(),
+        );
+    }
+
+    fn order(&mut self, case: &Case, kind: u32, number: u32) -> Played {
+        let (played, _) = self.compare(
+            case,
+            &|book, game, _| library::order(book, game, kind, number).into(),
+            &|book, game, _| plain::order(book, game, kind, number).into(),
+        );
         played
+    }
+
+    /// Plays a round on both sides; where it is accepted, without the checks as well.
+    fn round(&mut self, case: &Case) -> Played {
+        let expected = self.compare(case, &library::play, &plain::play);
+        if expected.0.verdict.is_accepted() {
+            // SAFETY: the plain call has checked book, game and room.
+            let round: Call = &|book, game, marks| unsafe { library::round(book, game, marks) };
+            self.hold("library, round alone", round, case, &expected);
+            self.hold("plain, round alone", &plain::round, case, &expected);
+        }
+        expected.0
+    }
+
+    /// Whether all calls are answered alike, and each of these numbers was answered often enough.
+    fn is_right(&self, told: &[usize]) -> bool {
+        let Tally { calls, differ, .. } = self;
+        let total: usize = self.numbers.iter().sum();
+        println!("compared: {total} {calls}");
+        println!("answers 0 to 11: {:?}", self.numbers);
+        println!("different: {differ} of {total}");
+        let seen = told.iter().all(|&number| self.numbers[number] >= 100);
+        if !seen {
+            println!("some number was answered fewer than 100 times");
+        }
+        *differ == 0 && seen
     }
 }
 
@@ -110,9 +162,35 @@ fn random_accepted_book(random: &mut Random) -> Vec<u8> {
     }
 }
 
-/// A play of a few rounds from set-up on, with orders. Now and then a round is lent a damaged book or a game changed from outside; the play
-/// goes on from the game before if that is turned down or the book was another.
-fn random_play(tally: &mut Tally, play: usize) {
+/// What is lent to a call in a play of this book, which has so many mark steps. Now and then the book is damaged, or the game changed from
+/// outside.
+fn lent<'a>(random: &mut Random, name: &'a str, book: &[u8], marks: usize, game: Game) -> Case<'a> {
+    let mut case = Case {
+        name,
+        book: book.to_vec(),
+        game,
+        buffer: Vec::new(),
+    };
+    match random.below(20) {
+        0 => damage(random, &mut case.book),
+        1..=3 => (0..1 + random.below(3)).for_each(|_| poke(random, &mut case.game)),
+        4..=7 => displace(random, book, &mut case.game),
+        _ => {}
+    }
+    case.buffer = random_buffer(random, marks);
+    case
+}
+
+/// The calls that are compared.
+struct Tallies {
+    set_ups: Tally,
+    orders: Tally,
+    rounds: Tally,
+}
+
+/// A play of a few rounds from set-up on, with orders. Where a call is turned down or was lent another book, the play goes on from the game
+/// before. What a round is lent is lent to set-up too, and the play does not go on from that.
+fn random_play(tallies: &mut Tallies, play: usize) {
     let name = format!("play {play}");
     let mut random = Random(play as u64);
     let book = random_accepted_book(&mut random);
@@ -120,61 +198,60 @@ fn random_play(tally: &mut Tally, play: usize) {
     let mut game = Game::set_up(plain::counts(&book));
     for _ in 0..1 + random.below(MOST_ROUNDS) {
         for _ in 0..random.below(6).saturating_sub(3) {
-            order(&mut random, &mut game);
+            let (kind, number) = random_order(&mut random, game.counts);
+            let case = lent(&mut random, &name, &book, marks, game);
+            let played = tallies.orders.order(&case, kind, number);
+            if played.verdict.is_accepted() && case.book == book {
+                game = played.game;
+            }
         }
-        let (mut lent, mut damaged) = (game, book.clone());
-        match random.below(20) {
-            0 => damage(&mut random, &mut damaged),
-            1..=3 => (0..1 + random.below(3)).for_each(|_| poke(&mut random, &mut lent)),
-            4..=7 => displace(&mut random, &book, &mut lent),
-            _ => {}
-        }
-        let played = tally.compare(&Case {
-            name: &name,
-            book: &damaged,
-            game: lent,
-            buffer: random_buffer(&mut random, marks),
-        });
-        if played.verdict.is_accepted() && damaged == book {
+        let case = lent(&mut random, &name, &book, marks, game);
+        tallies.set_ups.set_up(&case);
+        let played = tallies.rounds.round(&case);
+        if played.verdict.is_accepted() && case.book == book {
             game = played.game;
         }
     }
 }
 
 /// A round of a book of nothing but marks, and of one of nothing but numbers given, the longest that there are among them.
-fn full_plays(tally: &mut Tally) {
+fn full_plays(rounds: &mut Tally) {
     for count in [63, 64, 65, 255, 256, 257, MOST_STEPS] {
         for op in [MARK, SIGNAL_NUMBER] {
             let book = books::book(&[vec![bare(op); count]], 1, 1);
-            tally.compare(&Case {
+            rounds.round(&Case {
                 name: &format!("{count} steps of op {op}"),
                 game: Game::set_up(plain::counts(&book)),
                 buffer: vec![-1; 2 * plain::mark_steps(&book) + BEHIND],
-                book: &book,
+                book,
             });
         }
     }
 }
 
-/// Whether all rounds are answered alike, and each number often enough. 8 is no answer of a round, and 11 is never told.
+/// Whether all calls are answered alike, and each number often enough. 8 is an answer of orders alone, and 11 is never told.
 pub fn compare_plays() -> bool {
-    let mut tally = Tally::default();
+    let mut tallies = Tallies {
+        set_ups: Tally::new("set-ups"),
+        orders: Tally::new("orders"),
+        rounds: Tally::new("rounds"),
+    };
     for play in 0..RANDOM_PLAYS {
-        random_play(&mut tally, play);
+        random_play(&mut tallies, play);
     }
-    full_plays(&mut tally);
-    let rounds: usize = tally.numbers.iter().sum();
-    println!("compared: {rounds} rounds, nearly all of {RANDOM_PLAYS} random plays");
-    println!("answers 0 to 11: {:?}", tally.numbers);
+    full_plays(&mut tallies.rounds);
+    println!("{RANDOM_PLAYS} random plays, and rounds of nothing but marks or numbers given");
+    let Tallies {
+        set_ups,
+        orders,
+        rounds,
+    } = tallies;
+    let set_ups_right = set_ups.is_right(&[0, 1, 2, 3, 4, 5, 6, 7]);
+    let orders_right = orders.is_right(&[0, 1, 2, 3, 4, 5, 6, 7, 8, 9]);
+    let rounds_right = rounds.is_right(&[0, 1, 2, 3, 4, 5, 6, 7, 9, 10]);
     println!(
         "accepted: {} rounds with {} passes and {} marks",
-        tally.numbers[0], tally.passes, tally.marks
+        rounds.numbers[0], rounds.passes, rounds.marks
     );
-    println!("different: {} of {rounds}", tally.differ);
-    let told = [0, 1, 2, 3, 4, 5, 6, 7, 9, 10];
-    let seen = told.iter().all(|&number| tally.numbers[number] >= 100);
-    if !seen {
-        println!("some number was answered fewer than 100 times");
-    }
-    tally.differ == 0 && seen
+    set_ups_right && orders_right && rounds_right
 }

@@ -1,4 +1,4 @@
-//! Games and what playing a round answers, laid out as the library lays them out: as in C.
+//! Games and what the calls on them answer, laid out as the library lays them out: as in C.
 
 use crate::verdict::Verdict;
 
@@ -103,6 +103,14 @@ impl Game {
     }
 }
 
+/// What set-up and an order answer: after a refusal the game is the lent one.
+#[repr(C)]
+#[derive(Clone, Copy, PartialEq, Eq, Debug)]
+pub struct Outcome {
+    pub verdict: Verdict,
+    pub game: Game,
+}
+
 /// What playing a round answers: after a refusal the game is the lent one, and passes and marks are 0.
 #[repr(C)]
 #[derive(Clone, Copy, PartialEq, Eq, Debug)]
@@ -111,4 +119,16 @@ pub struct Played {
     pub game: Game,
     pub passes: usize,
     pub marks: usize,
+}
+
+/// Set-up and an order answer as a round does that takes no passes and makes no marks.
+impl From<Outcome> for Played {
+    fn from(Outcome { verdict, game }: Outcome) -> Played {
+        Played {
+            verdict,
+            game,
+            passes: 0,
+            marks: 0,
+        }
+    }
 }

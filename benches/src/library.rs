@@ -1,12 +1,22 @@
 //! The library's calls.
 
-use crate::game::{Game, Played};
+use crate::game::{Game, Outcome, Played};
 use crate::verdict::Verdict;
 
 extern "C" {
     fn zulqenat_check_book(book: *const u8, length: usize) -> Verdict;
 
     fn zulqenat_fits(book: *const u8, length: usize, game: Game) -> bool;
+
+    fn zulqenat_set_up(book: *const u8, length: usize, game: Game) -> Outcome;
+
+    fn zulqenat_order(
+        book: *const u8,
+        length: usize,
+        game: Game,
+        kind: u32,
+        number: u32,
+    ) -> Outcome;
 
     fn zulqenat_play(
         book: *const u8,
@@ -36,6 +46,20 @@ pub fn read(book: &[u8]) -> Verdict {
 pub fn fits(book: &[u8], game: Game) -> bool {
     // SAFETY: the pointer and the length are those of a slice, which the call only reads and does not keep.
     unsafe { zulqenat_fits(book.as_ptr(), book.len(), game) }
+}
+
+/// Sets up a game.
+#[inline(always)]
+pub fn set_up(book: &[u8], game: Game) -> Outcome {
+    // SAFETY: the pointer and the length are those of a slice, which the call only reads and does not keep.
+    unsafe { zulqenat_set_up(book.as_ptr(), book.len(), game) }
+}
+
+/// Gives a game an order.
+#[inline(always)]
+pub fn order(book: &[u8], game: Game, kind: u32, number: u32) -> Outcome {
+    // SAFETY: the pointer and the length are those of a slice, which the call only reads and does not keep.
+    unsafe { zulqenat_order(book.as_ptr(), book.len(), game, kind, number) }
 }
 
 /// Plays a round, after the checks.

@@ -1,13 +1,16 @@
 //! The library's calls in plain Rust, written apart from it.
 
 mod fitting;
+mod orders;
 mod reading;
 mod round;
 
-use crate::game::{Counts, Game, Played};
+use crate::game::{Counts, Game, Outcome, Played};
 use crate::steps::{Step, MARK};
 use crate::verdict::Verdict;
 pub use fitting::timed_count;
+use orders::obey;
+pub use orders::{nameable, KINDS};
 use round::play_round;
 
 const HEADER: usize = 12;
@@ -59,9 +62,50 @@ pub fn fits(book: &[u8], game: Game) -> bool {
     fitting::fits(book, &game)
 }
 
+/// Sets up a game.
+#[inline(never)]
+pub fn set_up(book: &[u8], game: Game) -> Outcome {
+    match reading::check(book) {
+        Ok(()) => Outcome {
+            verdict: Verdict::ACCEPTED,
+            game: Game::set_up(counts(book)),
+        },
+        Err(verdict) => Outcome { verdict, game },
+    }
+}
+
+/// A refusal without a place.
+fn refuse(number: u32) -> Check {
+    Err(Verdict { number, place: 0 })
+}
+
+/// The checks of an order, 1 to 7, 9 and 8.
+fn check_order(book: &[u8], game: &Game, kind: u32, number: u32) -> Check {
+    reading::check(book)?;
+    if !fitting::fits(book, game) {
+        return refuse(9);
+    }
+    if number as usize >= nameable(counts(book), kind) {
+        return refuse(8);
+    }
+    Ok(())
+}
+
+/// Gives a game an order.
+#[inline(never)]
+pub fn order(book: &[u8], mut game: Game, kind: u32, number: u32) -> Outcome {
+    let verdict = match check_order(book, &game, kind, number) {
+        Ok(()) => {
+            obey(&mut game, kind, number as usize);
+            Verdict::ACCEPTED
+        }
+        Err(verdict) => verdict,
+    };
+    Outcome { verdict, game }
+}
+
 /// The checks of a round, 1 to 7, 9 and 10.
-fn check(book: &[u8], game: &Game, room: usize) -> Check {
-    let refuse = |number| Err(Verdict { number, place: 0 });
+fn check_round(book: &[u8], game: &Game, room: usize) -> Check {
     reading::check(book)?;
     if !fitting::fits(book, game) {
         return refuse(9);
@@ -75,7 +119,7 @@ fn check(book: &[u8], game: &Game, room: usize) -> Check {
 /// Plays a round, after the checks.
 #[inline(never)]
 pub fn play(book: &[u8], mut game: Game, marks: &mut [i32]) -> Played {
-    let (verdict, (passes, marks)) = match check(book, &game, marks.len()) {
+    let (verdict, (passes, marks)) = match check_round(book, &game, marks.len()) {
         Ok(()) => (Verdict::ACCEPTED, play_round(book, &mut game, marks)),
         Err(verdict) => (verdict, (0, 0)),
     };

@@ -1,21 +1,22 @@
 //! What happens to a game between the rounds of a random play: orders, and changes from outside that may leave it unfit for its book.
 
-use crate::game::{Game, LIMIT, MOST_ROUTINES};
-use crate::plain::{routine_steps, timed_count};
+use crate::game::{Counts, Game, LIMIT, MOST_ROUTINES};
+use crate::plain::{nameable, routine_steps, timed_count, KINDS};
 use crate::random::Random;
 
-/// Gives a game that fits a random order.
-pub fn order(random: &mut Random, game: &mut Game) {
-    let number = random.below(game.counts.routines);
-    let routine = &mut game.routines[number];
-    match random.below(5) {
-        0 if game.counts.signals > 0 => game.broadcast[random.below(game.counts.signals)] = true,
-        1 => game.start(number),
-        2 => routine.stopping = true,
-        3 => routine.suspending = true,
-        4 => routine.resuming = true,
-        _ => {}
-    }
+/// The kind and the number of a random order: mostly of a kind that there is, with a number that it may name.
+pub fn random_order(random: &mut Random, counts: Counts) -> (u32, u32) {
+    let kinds = KINDS as usize;
+    let kind = match random.below(20) {
+        0 => kinds + random.below(3),
+        _ => random.below(kinds),
+    } as u32;
+    let count = nameable(counts, kind);
+    let number = match random.below(20) {
+        0 => count + random.below(3),
+        _ => random.below(count.max(1)),
+    };
+    (kind, number as u32)
 }
 
 /// Puts a routine at a random place of its own, in mid-count where the step there has a count: a game that fits still does.

@@ -1,4 +1,5 @@
-//! The books whose rounds are timed. But for T3's and one empty routine, their routines loop for ever and rest once a round or more often.
+//! The books on which every call is timed. But for T3's and one empty routine, their routines loop for ever and rest once a round or more
+//! often.
 
 use crate::books::{book, t3};
 use crate::game::LIMIT;

@@ -3,7 +3,7 @@
 use std::hint::black_box;
 use std::time::Instant;
 
-use crate::game::{Game, Played};
+use crate::game::{Game, Outcome, Played};
 use crate::timed_books::{timed_books, TimedBook};
 use crate::{books, library, plain};
 
@@ -43,9 +43,12 @@ fn time(name: &str, calls: usize, mut by_library: impl FnMut(), mut by_plain: im
 }
 
 fn time_reading(name: &str, book: &[u8]) {
-    assert!(plain::read(book).is_accepted(), "{name}: not accepted");
+    assert!(
+        library::read(book).is_accepted() && plain::read(book).is_accepted(),
+        "{name}: not accepted"
+    );
     time(
-        &format!("reading, {name} ({} bytes)", book.len()),
+        &format!("{name}, reading ({} bytes)", book.len()),
         1,
         || {
             black_box(library::read(black_box(book)));
@@ -113,6 +116,74 @@ fn time_fitting(timed: &TimedBook, games: &[Game]) {
     );
 }
 
+/// Sets up each game anew. Both sides take the game by value and answer by value, as a round does.
+#[inline(always)]
+fn set_up_all(set_up: impl Fn(&[u8], Game) -> Outcome, book: &[u8], games: &[Game]) {
+    for game in games {
+        black_box(&set_up(black_box(book), *black_box(game)));
+    }
+}
+
+fn time_set_up(timed: &TimedBook, games: &[Game]) {
+    let book = &timed.book;
+    for &game in games {
+        let (found, expected) = (library::set_up(book, game), plain::set_up(book, game));
+        assert!(
+            found == expected && expected.verdict.is_accepted(),
+            "{}: set-up differs or is refused",
+            timed.name
+        );
+    }
+    time(
+        &format!("{}, set-up", timed.name),
+        games.len(),
+        || set_up_all(library::set_up, book, games),
+        || set_up_all(plain::set_up, book, games),
+    );
+}
+
+/// An order: a game, a kind and a number.
+type Order<'a> = (&'a Game, u32, u32);
+
+/// An order of each kind for each game; the numbers are those that the kind may name, in turn.
+fn orders_for<'a>(book: &[u8], games: &'a [Game]) -> Vec<Order<'a>> {
+    let number = |at, kind| (at % plain::nameable(plain::counts(book), kind)) as u32;
+    let orders = games
+        .iter()
+        .enumerate()
+        .flat_map(|(at, game)| (0..plain::KINDS).map(move |kind| (game, kind, number(at, kind))));
+    orders.collect()
+}
+
+/// Gives each order. Both sides take the game by value and answer by value, as a round does.
+#[inline(always)]
+fn order_all(order: impl Fn(&[u8], Game, u32, u32) -> Outcome, book: &[u8], orders: &[Order]) {
+    for given in orders {
+        let (game, kind, number) = *black_box(given);
+        black_box(&order(black_box(book), *game, kind, number));
+    }
+}
+
+fn time_orders(timed: &TimedBook, games: &[Game]) {
+    let book = &timed.book;
+    let orders = orders_for(book, games);
+    for &(&game, kind, number) in &orders {
+        let expected = plain::order(book, game, kind, number);
+        let found = library::order(book, game, kind, number);
+        assert!(
+            found == expected && expected.verdict.is_accepted(),
+            "{}: an order differs or is refused",
+            timed.name
+        );
+    }
+    time(
+        &format!("{}, order", timed.name),
+        orders.len(),
+        || order_all(library::order, book, &orders),
+        || order_all(plain::order, book, &orders),
+    );
+}
+
 fn time_rounds(timed: &TimedBook, games: &[Game]) {
     let book = &timed.book;
     let mut marks = vec![0; 2 * plain::mark_steps(book)];
@@ -133,14 +204,16 @@ fn time_rounds(timed: &TimedBook, games: &[Game]) {
     );
 }
 
-/// Times reading on two books, and fitting and rounds on five.
+/// Times every call on five books, and reading on a sixth.
 pub fn time_all() {
     println!("median of {BATCHES} batches, both sides in turn, buffers warm; a ratio above 1 means that the library is faster");
     time_reading("a largest book", &books::largest());
-    time_reading("T3", &books::t3());
     for timed in timed_books() {
         let games = games_of(&timed);
+        time_reading(timed.name, &timed.book);
         time_fitting(&timed, &games);
+        time_set_up(&timed, &games);
+        time_orders(&timed, &games);
         time_rounds(&timed, &games);
     }
 }

@@ -47,7 +47,7 @@ fn position_fits(steps: &[Step], routine: &Routine) -> bool {
         }
 }
 
-/// Whether a game fits an accepted book. Both its callers are timed, so it is compiled into each.
+/// Whether a game fits an accepted book. All its callers are timed, so it is compiled into each.
 #[inline(always)]
 pub fn fits(book: &[u8], game: &Game) -> bool {
     let counts = counts(book);
