@@ -3,3 +3,4 @@ pub mod Parses
 pub mod Sound
 pub mod Views
 pub mod Whiles
+pub mod Ahead

@@ -26,7 +26,7 @@ stands-not-beyond h k = let z : _≡_ {A = ℕ} 0 1 = cc in omega arith
 pub unreadable-not-beyond : {x : View} → x ≡ unreadable → x ≡ beyond → ⊥
 unreadable-not-beyond h k = let z : _≡_ {A = ℕ} 0 1 = cc in omega arith
 
-seen-stands : (s : Step) → seen s ≡ beyond → ⊥
+pub seen-stands : (s : Step) → seen s ≡ beyond → ⊥
 seen-stands (step.Kind k) e = stands-not-beyond refl e
 seen-stands step.Refused e = unreadable-not-beyond refl e
 

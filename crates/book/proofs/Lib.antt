@@ -1,6 +1,6 @@
 pub mod Decided
 pub mod Laid
-pub mod OnePass
+pub mod OneReading
 pub mod Routines
 pub mod Parts
 pub mod Telling

@@ -10,6 +10,7 @@ use game::Game;
 use kinds::Counts;
 use layout::MOST_ROUTINES;
 use layout::counts_of;
+use layout::limits_in;
 use slots::slot_fits;
 ghost use mathlib.Core.Path.{_≡_};
 ghost use Rattle.fitting.specs.Fitting.{sameCounts, fitsBook};
@@ -44,10 +45,19 @@ pub fn fits(book: &[u8], game: Game) -> bool
     if !signals_fit(&game.broadcast, counts.signals) {
         return false;
     }
+    let limits = limits_in(book);
     let mut at: usize = 0;
     while at < MOST_ROUTINES {
         let x = game.routines[at];
-        if !slot_fits(book, counts.routines, at, x, listed[at], starting[at]) {
+        if !slot_fits(
+            book,
+            &limits,
+            counts.routines,
+            at,
+            x,
+            listed[at],
+            starting[at],
+        ) {
             return false;
         }
         at += 1;

@@ -8,13 +8,15 @@ use game::NOT_STARTED;
 use game::RESTED;
 use game::Routine;
 use game::STOPPED;
-use kinds::step_at;
-use layout::counts_of;
+use kinds::Limits;
+use kinds::step_within;
 ghost use mathlib.Core.Path.{_≡_};
 ghost use mathlib.Core.Bool.{_||_};
 ghost use lib.Dec.{ltb};
 ghost use Rattle.numbers.specs.Choice.{if_then_else_};
 ghost use Rattle.forms.specs.Timed.{timedCount};
+ghost use Rattle.kinds.specs.Limits.{limitsOf};
+ghost use Rattle.layout.specs.Layout.{countsOf};
 ghost use Rattle.directory.specs.Directory.{routineStep};
 ghost use Rattle.fitting.specs.Routines.{isBlank, stageFits, startFits, leftFits, routineFits};
 
@@ -75,12 +77,13 @@ fn start_fits(stage: u8, starting: bool) -> bool
 }
 
 // Whether begun and the count left of a routine go with the step at its place.
-fn left_fits(book: &[u8], routine: usize, x: Routine) -> bool
+fn left_fits(book: &[u8], limits: &Limits, routine: usize, x: Routine) -> bool
+    requires { ⌜ now limits ≡ limitsOf (countsOf (now book)) ⌝ }
     ensures { λ r. ⌜ r ≡ leftFits (x .begun) (x .left) (timedCount (routineStep (now (book .entry)) routine (x .place))) ⌝ }
 {
     if x.begun {
         let place = x.place as usize;
-        let step = step_at(routine_steps(book, routine), counts_of(book), place);
+        let step = step_within(routine_steps(book, routine), limits, place);
         (x.left as usize) < timed_count(step)
     } else {
         x.left == 0
@@ -88,29 +91,41 @@ fn left_fits(book: &[u8], routine: usize, x: Routine) -> bool
 }
 
 // Whether a routine of the book fits, given whether it is listed and whether it is to start.
-fn routine_fits(book: &[u8], routine: usize, x: Routine, listed: bool, starting: bool) -> bool
+fn routine_fits(
+    book: &[u8],
+    limits: &Limits,
+    routine: usize,
+    x: Routine,
+    listed: bool,
+    starting: bool,
+) -> bool
+    requires { ⌜ now limits ≡ limitsOf (countsOf (now book)) ⌝ }
     ensures { λ r. ⌜ r ≡ routineFits (now (book .entry)) routine x listed starting ⌝ }
 {
     if step_count(book, routine) < x.place as usize {
         return false;
     }
-    stage_fits(x.stage, listed) && start_fits(x.stage, starting) && left_fits(book, routine, x)
+    stage_fits(x.stage, listed)
+        && start_fits(x.stage, starting)
+        && left_fits(book, limits, routine, x)
 }
 
 // A slot of the routines: one of so many routines of the book, or beyond them, where nothing is kept.
 pub fn slot_fits(
     book: &[u8],
+    limits: &Limits,
     routines: usize,
     routine: usize,
     x: Routine,
     listed: bool,
     starting: bool,
 ) -> bool
+    requires { ⌜ now limits ≡ limitsOf (countsOf (now book)) ⌝ }
     ensures { λ r. ⌜ r ≡
         (if ltb routine routines then routineFits (now (book .entry)) routine x listed starting else isBlank x) ⌝ }
 {
     if routine < routines {
-        routine_fits(book, routine, x, listed, starting)
+        routine_fits(book, limits, routine, x, listed, starting)
     } else {
         is_blank(x)
     }

@@ -62,7 +62,7 @@ pub fn blank_routine() -> Routine
     }
 }
 
-// A game whose fields are all 0, to be lent to set-up.
+// A game whose fields are all 0: what set-up begins from, and a game to be lent to it.
 pub fn blank_game() -> Game
     ensures { λ r. ⌜ r ≡ blankGame ⌝ }
 {

@@ -31,10 +31,13 @@ from-none : (n k : ℕ) → NoneBelow n k → k ≤ n
 from-none n zero h = omega arith
 from-none n (suc k) h = let l = from-none n k (h .0) in omega arith
 
--- an op that is none of the 21 lies past the table
-pub unknown-op : (op : ℕ) → NoneBelow op 21 → rowOf op ≡ unknown
+-- an op past the table has no row, and one that is none of the 21 lies past it
+pub past-table : (op : ℕ) → 21 ≤ op → rowOf op ≡ unknown
 unfolding rowOf
-unknown-op op h = let l = from-none op 21 h in List·getD-eq-default table unknown l
+past-table op h = List·getD-eq-default table unknown h
+
+pub unknown-op : (op : ℕ) → NoneBelow op 21 → rowOf op ≡ unknown
+unknown-op op h = past-table op (from-none op 21 h)
 
 -- what holds of a row, and what holds of the rows behind it
 infixr 5 _and_

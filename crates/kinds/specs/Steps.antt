@@ -15,7 +15,6 @@ use Rattle.kinds.specs.declared.Step.{Step}
 use Rattle.kinds.specs.declared.Step.the-variants as step
 use Rattle.kinds.specs.declared.Fields.{Fields}
 use Rattle.kinds.specs.declared.Counts.{Counts}
-use Rattle.kinds.specs.declared.LimitedKind.{LimitedKind}
 
 -- a row of the table: how many values a and b have, from 0 on, by the book's counts; the lowest and the highest n; the kind, by the fields
 pub record Row : Type 0 where
@@ -97,12 +96,6 @@ rowOf op = getD table op unknown
 -- the kind of a step whose fields are op, a, b and n
 abbrev pub kindOf : ℕ → ℕ → ℕ → ℤ → Kind
 kindOf op a b n = rowOf op .kind a b n
-
--- that kind, behind its limits
-abbrev pub limitedKind : Counts → ℕ → ℕ → ℕ → ℤ → LimitedKind
-limitedKind counts op a b n =
-    let r = rowOf op in
-    record { 0 = r .aCount counts; 1 = r .bCount counts; 2 = r .lowestN; 3 = r .highestN; 4 = kindOf op a b n }
 
 -- a step's fields are within its op's limits
 pub record Readable (counts : Counts) (op a b : ℕ) (n : ℤ) : Type 0 where

@@ -4,7 +4,8 @@ use numbers::LOWEST;
 ghost use mathlib.Core.Path.{_≡_};
 ghost use Prim.Native.Nat.{_/_, _<_};
 ghost use lib.ListN.{length};
-ghost use Rattle.kinds.specs.Steps.{limitedKind, kindOf, decoded, stepBytes, fieldsAt, kindAt, stepAt};
+ghost use Rattle.kinds.specs.Steps.{kindOf, stepBytes, fieldsAt, kindAt};
+ghost use Rattle.kinds.specs.Limits.{fieldLimits, numberLimits, limitsOf, decodedWithin, stepWithin};
 
 // The 21 kinds. Indexes, relations and counts are ready to use: a count of 0 or less is 0.
 pub enum Kind {
@@ -43,8 +44,8 @@ pub enum Step {
 // A step's fields: op, a, b and n.
 pub struct Fields {
     pub op: u8,
-    pub a: usize,
-    pub b: usize,
+    pub a: u8,
+    pub b: u16,
     pub n: i32,
 }
 
@@ -60,72 +61,121 @@ pub struct Counts {
 const MOST_READ: i32 = 64;
 
 // Equal, less and greater.
-const RELATIONS: usize = 3;
+const RELATIONS: i32 = 3;
 
-// A kind behind its limits: how many values a and b have, the lowest and the highest n.
-pub struct LimitedKind(pub usize, pub usize, pub i32, pub i32, pub Kind);
+// How many ops there are.
+const OPS: usize = 21;
 
-// The table of kinds. An unnamed field has one value, 0; an unknown op has no a at all.
-fn limited_kind(counts: Counts, op: u8, a: usize, b: usize, n: i32) -> LimitedKind
-    ensures { λ r. ⌜ r ≡ limitedKind counts op a b n ⌝ }
+// Two limits for each op.
+type Pairs = [[i32; 2]; OPS];
+
+// What the fields of a step may be in some book: of each op, first how many values a and b have, then the lowest and the highest n.
+pub type Limits = [Pairs; 2];
+
+// How many values a and b have, by op, with so many routines, signals and counters. An unnamed field has one value, 0.
+fn field_limits(routines: u16, signals: u16, counters: u16) -> Pairs
+    ensures { λ x. ⌜ x ≡ fieldLimits (record { routines = routines; signals = signals; counters = counters }) ⌝ }
 {
-    let routines = counts.routines;
-    let signals = counts.signals;
-    let counters = counts.counters;
-    let k = numbers::count(n);
-    match op {
-        0 => LimitedKind(1, 1, LOWEST, HIGHEST, Kind::Mark(n)),
-        1 => LimitedKind(counters, 1, LOWEST, HIGHEST, Kind::Set(a, n)),
-        2 => LimitedKind(counters, 1, LOWEST, HIGHEST, Kind::Add(a, n)),
-        3 => LimitedKind(counters, counters, 0, 0, Kind::Take(a, b)),
-        4 => LimitedKind(signals, 1, 0, 0, Kind::Signal(a)),
-        5 => LimitedKind(signals, counters, 0, 0, Kind::SignalNumber(a, b)),
-        6 => LimitedKind(1, 1, 0, 0, Kind::Rest),
-        7 => LimitedKind(1, 1, LOWEST, HIGHEST, Kind::RestFor(k)),
-        8 => LimitedKind(signals, 1, 0, 0, Kind::Wait(a)),
-        9 => LimitedKind(signals, 1, LOWEST, HIGHEST, Kind::WaitFor(a, k)),
-        10 => LimitedKind(routines, 1, 0, 0, Kind::Join(a)),
-        11 => LimitedKind(routines, 1, LOWEST, HIGHEST, Kind::JoinFor(a, k)),
-        12 => LimitedKind(signals, counters, 1, MOST_READ, Kind::Read(a, b, k)),
-        13 => LimitedKind(routines, 1, 0, 0, Kind::Start(a)),
-        14 => LimitedKind(routines, 1, 0, 0, Kind::Stop(a)),
-        15 => LimitedKind(routines, 1, 0, 0, Kind::Suspend(a)),
-        16 => LimitedKind(routines, 1, 0, 0, Kind::Resume(a)),
-        17 => LimitedKind(counters, RELATIONS, LOWEST, HIGHEST, Kind::If(a, b, n)),
-        18 => LimitedKind(1, 1, 0, 0, Kind::Else),
-        19 => LimitedKind(counters, RELATIONS, LOWEST, HIGHEST, Kind::While(a, b, n)),
-        20 => LimitedKind(1, 1, 0, 0, Kind::End),
-        _ => LimitedKind(0, 0, 0, 0, Kind::End),
-    }
+    let r = routines as i32;
+    let e = signals as i32;
+    let c = counters as i32;
+    let k = RELATIONS;
+    [
+        [1, 1],
+        [c, 1],
+        [c, 1],
+        [c, c],
+        [e, 1],
+        [e, c],
+        [1, 1],
+        [1, 1],
+        [e, 1],
+        [e, 1],
+        [r, 1],
+        [r, 1],
+        [e, c],
+        [r, 1],
+        [r, 1],
+        [r, 1],
+        [r, 1],
+        [c, k],
+        [1, 1],
+        [c, k],
+        [1, 1],
+    ]
 }
 
-// The kind of a step whose fields are op, a, b and n, whatever the counts.
+// The lowest and the highest n, by op. An unnamed n is 0.
+fn number_limits() -> Pairs
+    ensures { λ x. ⌜ x ≡ numberLimits ⌝ }
+{
+    let named = [LOWEST, HIGHEST];
+    let mut pairs = [[0; 2]; OPS];
+    pairs[0] = named;
+    pairs[1] = named;
+    pairs[2] = named;
+    pairs[7] = named;
+    pairs[9] = named;
+    pairs[11] = named;
+    pairs[12] = [1, MOST_READ];
+    pairs[17] = named;
+    pairs[19] = named;
+    pairs
+}
+
+// The limits of a book with so many routines, signals and counters.
+pub fn limits_of(routines: u16, signals: u16, counters: u16) -> Limits
+    ensures { λ x. ⌜ x ≡ limitsOf (record { routines = routines; signals = signals; counters = counters }) ⌝ }
+{
+    [field_limits(routines, signals, counters), number_limits()]
+}
+
+// The kind of a step whose fields are op, a, b and n, whatever they are.
 pub fn kind_of(op: u8, a: usize, b: usize, n: i32) -> Kind
     ensures { λ r. ⌜ r ≡ kindOf op a b n ⌝ }
 {
-    let none = Counts {
-        routines: 0,
-        signals: 0,
-        counters: 0,
-    };
-    let limited = limited_kind(none, op, a, b, n);
-    limited.4
+    let k = numbers::count(n);
+    match op {
+        0 => Kind::Mark(n),
+        1 => Kind::Set(a, n),
+        2 => Kind::Add(a, n),
+        3 => Kind::Take(a, b),
+        4 => Kind::Signal(a),
+        5 => Kind::SignalNumber(a, b),
+        6 => Kind::Rest,
+        7 => Kind::RestFor(k),
+        8 => Kind::Wait(a),
+        9 => Kind::WaitFor(a, k),
+        10 => Kind::Join(a),
+        11 => Kind::JoinFor(a, k),
+        12 => Kind::Read(a, b, k),
+        13 => Kind::Start(a),
+        14 => Kind::Stop(a),
+        15 => Kind::Suspend(a),
+        16 => Kind::Resume(a),
+        17 => Kind::If(a, b, n),
+        18 => Kind::Else,
+        19 => Kind::While(a, b, n),
+        _ => Kind::End,
+    }
 }
 
-// The step whose fields are op, a, b and n: that kind, if the fields are within its limits.
-pub fn decode(counts: Counts, op: u8, a: usize, b: usize, n: i32) -> Step
-    ensures { λ r. ⌜ r ≡ decoded counts op a b n ⌝ }
+// The step whose fields are op, a, b and n: that kind, if the fields are within the limits of their op.
+pub fn decode(limits: &Limits, op: u8, a: u8, b: u16, n: i32) -> Step
+    ensures { λ r. ⌜ r ≡ decodedWithin (now (limits .entry)) op a b n ⌝ }
 {
-    let limited = limited_kind(counts, op, a, b, n);
-    if limited.0 <= a {
+    let i = op as usize;
+    if OPS <= i {
         return Step::Refused;
     }
-    if limited.1 <= b {
+    if limits[0][i][0] <= a as i32 {
         return Step::Refused;
     }
-    if numbers::is_within(n, limited.2, limited.3) {
-        let kind = limited.4;
-        Step::Kind(kind)
+    if limits[0][i][1] <= b as i32 {
+        return Step::Refused;
+    }
+    if numbers::is_within(n, limits[1][i][0], limits[1][i][1]) {
+        Step::Kind(kind_of(op, a as usize, b as usize, n))
     } else {
         Step::Refused
     }
@@ -138,8 +188,8 @@ fn fields_at(steps: &[u8], at: usize) -> Fields
 {
     let i = at * STEP_BYTES;
     let op = steps[i];
-    let a = steps[i + 1] as usize;
-    let b = numbers::half(steps[i + 2], steps[i + 3]);
+    let a = steps[i + 1];
+    let b = numbers::half(steps[i + 2], steps[i + 3]) as u16;
     let n = numbers::number(steps[i + 4], steps[i + 5], steps[i + 6], steps[i + 7]);
     Fields { op, a, b, n }
 }
@@ -151,16 +201,16 @@ pub fn kind_at(steps: &[u8], at: usize) -> Kind
     ensures { λ r. ⌜ r ≡ kindAt (now (steps .entry)) at ⌝ }
 {
     let fields = fields_at(steps, at);
-    kind_of(fields.op, fields.a, fields.b, fields.n)
+    kind_of(fields.op, fields.a as usize, fields.b as usize, fields.n)
 }
 
-// The step at a place of a part of the book; refused where its eight bytes are not there.
-pub fn step_at(steps: &[u8], counts: Counts, at: usize) -> Step
-    ensures { λ r. ⌜ r ≡ stepAt counts (now (steps .entry)) at ⌝ }
+// The step at a place of a part of the book whose limits are these; refused where its eight bytes are not there.
+pub fn step_within(steps: &[u8], limits: &Limits, at: usize) -> Step
+    ensures { λ r. ⌜ r ≡ stepWithin (now (limits .entry)) (now (steps .entry)) at ⌝ }
 {
     if steps.len() / STEP_BYTES <= at {
         return Step::Refused;
     }
     let fields = fields_at(steps, at);
-    decode(counts, fields.op, fields.a, fields.b, fields.n)
+    decode(limits, fields.op, fields.a, fields.b, fields.n)
 }

@@ -1,11 +1,13 @@
 // The header of a book and where its parts lie: refusals 1 to 3. Document 01, "The book".
 use kinds::Counts;
+use kinds::Limits;
 use kinds::STEP_BYTES;
 use numbers::half_at;
 use verdicts::Answer;
 ghost use mathlib.Core.Path.{_≡_};
 ghost use Prim.Native.Nat.{_+_, _*_, _<_};
 ghost use Rattle.numbers.specs.Numbers.{halfLimit};
+ghost use Rattle.kinds.specs.Limits.{limitsOf};
 ghost use Rattle.verdicts.specs.Verdicts.{verdictOf};
 ghost use Rattle.layout.specs.Layout.{headerBytes, entryBytes, routinesOf, stepsOf, signalsOf, countersOf, countsFit, countsOf};
 ghost use Rattle.layout.specs.Layout.{layoutFits, stepsFrom, layoutVerdict};
@@ -56,6 +58,17 @@ pub fn counts_of(book: &[u8]) -> Counts
         signals: signals(book),
         counters: counters(book),
     }
+}
+
+// What the fields of a step of this book may be.
+pub fn limits_in(book: &[u8]) -> Limits
+    ensures { λ r. ⌜ r ≡ limitsOf (countsOf (now (book .entry))) ⌝ }
+{
+    kinds::limits_of(
+        routines(book) as u16,
+        signals(book) as u16,
+        counters(book) as u16,
+    )
 }
 
 fn counts_fit(book: &[u8]) -> bool

@@ -1,5 +1,6 @@
 // Books of routines: read from any bytes, and shown. Document 01, "The book" and "Turned down because of the input".
 mod checks;
+mod readers;
 
 use directory::routine_steps;
 use verdicts::Answer;
@@ -8,7 +9,8 @@ ghost use Prim.Native.Nat.{_+_};
 ghost use Rattle.verdicts.specs.Verdicts.{verdictOf};
 ghost use Rattle.book.specs.Book.{bookVerdict, shown, shownFrom};
 
-// Reads a book: the first refusal of 1 to 7 that applies.
+// Reads a book: the first refusal of 1 to 7 that applies. A 5 comes before every 6, so a book that nests wrongly is looked through for a
+// wrong step; in any other book the readers of blocks have met the first one themselves.
 pub fn read_book(book: &[u8]) -> Answer
     ensures { λ r. ⌜ verdictOf r ≡ bookVerdict (now (book .entry)) ⌝ }
 {
@@ -20,11 +22,11 @@ pub fn read_book(book: &[u8]) -> Answer
     let Answer::Accepted = entries else {
         return entries;
     };
-    let steps = checks::check_steps(book);
-    let Answer::Accepted = steps else {
-        return steps;
+    let blocks = checks::check_blocks(book);
+    let Answer::WrongNesting(_) = blocks else {
+        return blocks;
     };
-    checks::check_blocks(book)
+    verdicts::first_answer(checks::check_steps(book), blocks)
 }
 
 // The steps of a routine, as that part of the lent book; the empty part at its start for a refused book or a number not

@@ -1,9 +1,8 @@
--- An answer that is not `Accepted` has a number other than 0.
--- By its variants: the number of each refusal is its own, from 1 to 7.
+-- An answer that is not `Accepted` has a number other than 0, and one that is not `WrongNesting` another than 6: the number of an answer
+-- is the place of its variant.
 use Prim.Native.Nat.{ℕ}
-use mathlib.Core.Path.{_≡_}
+use mathlib.Core.Path.{_≡_, refl, sym, _∙_}
 use mathlib.Core.List.{List, [], _∷_}
-use native.Mathlib.Omega.{arith}
 use types.Run.{OneOf, miss}
 use denote.Enum.Declared.{tagOf}
 use Rattle.verdicts.specs.declared.Answer.{Answer}
@@ -12,16 +11,29 @@ use Rattle.verdicts.specs.declared.Answer.the-variants.{WrongNesting, Wi
 use Rattle.verdicts.specs.Verdicts.{verdictOf}
 use Rattle.verdicts.proofs.Answer.{the-type}
 
--- the variants behind the first
+number-tag : (a : Answer) → verdictOf a .number ≡ tagOf the-type a
+number-tag Accepted = refl
+number-tag TooShort = refl
+number-tag WrongCount = refl
+number-tag WrongLayout = refl
+number-tag (WrongEntry r) = refl
+number-tag (WrongStep i) = refl
+number-tag (WrongNesting i) = refl
+number-tag (WithoutPause i) = refl
+
+-- so an answer of one of these variants has no other number
+other-number : (l : List ℕ) (k : ℕ) (a : Answer) → (OneOf l k → ⊥) → OneOf l (tagOf the-type a) → verdictOf a .number ≡ k → ⊥
+other-number l k a none is z = none (rw (sym (number-tag a) ∙ z) at is)
+
+-- the variants behind the first, and those but for wrong nesting
 abbrev refusals : List ℕ
 refusals = 1 ∷ 2 ∷ 3 ∷ 4 ∷ 5 ∷ 6 ∷ 7 ∷ []
 
+abbrev others : List ℕ
+others = 0 ∷ 1 ∷ 2 ∷ 3 ∷ 4 ∷ 5 ∷ 7 ∷ []
+
 pub refuses : (a : Answer) → OneOf refusals (tagOf the-type a) → verdictOf a .number ≡ 0 → ⊥
-refuses Accepted k z = miss refusals 0 (tt {0}) k
-refuses TooShort k z = omega (arith, z)
-refuses WrongCount k z = omega (arith, z)
-refuses WrongLayout k z = omega (arith, z)
-refuses (WrongEntry r) k z = omega (arith, z)
-refuses (WrongStep i) k z = omega (arith, z)
-refuses (WrongNesting i) k z = omega (arith, z)
-refuses (WithoutPause i) k z = omega (arith, z)
+refuses a = other-number refusals 0 a (miss refusals 0 (tt {0}))
+
+pub not-six : (a : Answer) → OneOf others (tagOf the-type a) → verdictOf a .number ≡ 6 → ⊥
+not-six a = other-number others 6 a (miss others 6 (tt {0}))

@@ -22,11 +22,11 @@ use Rattle.fitting.proofs.fits.Statement.{statement}
 use Rattle.fitting.proofs.fits.Tie as tie
 
 abbrev Inv-loop : tie.InvT-loop
-Inv-loop book game counts listed starting at₀ at =
+Inv-loop book game counts listed starting limits at₀ at =
     (allBelow at (slotFits book game) ≡ true) × (at ≤ mostRoutines)
 
 abbrev μ-loop : tie.MeasureT-loop
-μ-loop book game counts listed starting at₀ at = mostRoutines - at
+μ-loop book game counts listed starting limits at₀ at = mostRoutines - at
 
 sized : (c : tie.Start Inv-loop μ-loop) → isSized (c .args .t2) ≡ true
 sized c =
@@ -135,13 +135,13 @@ loop-holds c = (refl, search needs)
 -- the answer of the call is the contract's test of this slot: the flags tell whether the routine is in either list
 slot :
     (c : tie.After-slot-fits Inv-loop μ-loop) →
-    let l = c .before .before .before in
-    let f = first5 (l .before) in
+    let l = c .before .before .before .before in
+    let f = first5 (l .before .before) in
     c .slot-fits .result ≡ slotFits (book-of f) (game-of f) (l .loop .at)
 unfolding slotFits
 slot c =
-    let l = c .before .before .before in
-    let past3 = l .before .before .before .before .before .before .before .before .before in
+    let l = c .before .before .before .before in
+    let past3 = l .before .before .before .before .before .before .before .before .before .before in
     let past2 = past3 .before .before .before in
     let listed = past2 .before .line-fits .ensures .1 (not-false _ (past2 .if2 .left)) in
     let starting = past3 .before .line-fits2 .ensures .1 (not-false _ (past3 .if3 .left)) in
@@ -151,15 +151,15 @@ slot c =
 returns-6 : tie.Need-returns-6 Inv-loop μ-loop
 unfolding fitsBook
 returns-6 c =
-    let l = c .before .before .before .before in
+    let l = c .before .before .before .before .before in
     let fails =
-    all-fails (slotFits _ _) mostRoutines (l .loop .at) (c .before .before .before .loop-test .taken)
+    all-fails (slotFits _ _) mostRoutines (l .loop .at) (c .before .before .before .before .loop-test .taken)
     (sym (slot (c .before)) ∙ not-true _ (c .if6 .taken)) in
-    rw (past-signals (l .before), fails)
+    rw (past-signals (l .before .before), fails)
 
 loop-again : tie.Need-loop-again Inv-loop μ-loop
 loop-again c =
-    let l = c .before .before .before .before .loop in
+    let l = c .before .before .before .before .before .loop in
     (all-next (slotFits _ _) (l .at) (l .inv .0) (sym (slot (c .before)) ∙ not-false _ (c .if6 .left)), search needs)
 
 returns-7 : tie.Need-returns-7 Inv-loop μ-loop
@@ -167,9 +167,9 @@ unfolding fitsBook
 returns-7 c =
     let l = c .before in
     rw (
-      past-signals (l .before),
+      past-signals (l .before .before),
       all-ends (slotFits _ _) (l .loop .inv .0) (l .loop .inv .1) (c .loop-test .left),
-      sized (start (first5 (l .before))),
+      sized (start (first5 (l .before .before))),
     )
 
 pub fits-spec : {M : Type 1} → statement M
@@ -189,12 +189,13 @@ fits-spec =
     returns-4
     (λ c κs. search needs)
     returns-5
+    (λ c κs. search needs)
     loop-holds
     (λ c. search needs)
     (λ c. search needs)
     (λ c. search needs)
     (λ c. search needs)
-    (λ c κs. search needs)
+    (λ c κs. c .before .before .before .before .limits-in .ensures)
     returns-6
     (λ c. search needs)
     (λ c. search needs)

@@ -1,53 +1,131 @@
--- `kinds::decode` meets its contract: the code's three tests are the contract's, in the same order.
--- What the machine reads back of n and of the limits of n is those numbers, since each fits 32 bits.
-use mathlib.Core.Path.{_≡_}
+-- `kinds::decode` meets its contract: the code's four tests are the contract's, in the same order. What the machine reads back of a, b, n
+-- and the limits is those numbers, since each fits 32 bits.
+use Prim.Native.Nat.{ℕ, _<_}
+use mathlib.Core.Path.{_≡_, refl, ap, _∙_}
+use mathlib.Core.Bool.{Bool, not}
+use mathlib.Core.List.{[]}
+use native.Mathlib.Decide.{decLt}
+use native.Mathlib.Omega.{arith}
 use borrow.Author.Needs.{needs}
-use borrow.Author.Tests.{lt-ltb, le-ltb}
+use borrow.Author.Tests.{lt-ltb, le-ltb, lt-leb, le-leb}
+use denote.Ref.{now}
+use lib.Dec.{ltb, leb}
+use lib.ListN.{getD}
 use mir.Syntax.{w32}
-use mir.Val.{SFits}
-use mir.Facts.{toZ-ofZ}
+use mir.Val.{SFits, toZ, ofZ}
+use lib.IntN.{ℤ, pos, negsuc}
+use lib.Signed.{leZ, ltZ}
+use mir.Facts.{toZ-ofZ, toZ-pos}
+use Rattle.numbers.specs.Numbers.{halfLimit}
 use Rattle.numbers.specs.Choice.{if_then_else_}
 use Rattle.kinds.specs.declared.Step.the-variants.{Kind, Refused}
-use Rattle.kinds.specs.Steps.{limitedKind, decoded}
+use Rattle.kinds.specs.Steps.{kindOf}
+use Rattle.kinds.specs.Limits.{decodedWithin}
 use Rattle.kinds.proofs.decode.Statement.{statement}
 use Rattle.kinds.proofs.decode.Tie as tie
 
-limited-is : (c : tie.After-limited-kind) →
-    let a = c .before .args in
-    c .limited-kind .result ≡ limitedKind (a .counts) (a .op) (a .a) (a .b) (a .n)
-limited-is c = rw (toZ-ofZ (c .before .fits .n)) at (c .limited-kind .ensures)
+-- a test that a number is no lower, turned round
+turnedNat : (a b : ℕ) → ltb b a ≡ not (leb a b)
+turnedNat a b =
+    elim (decLt b a) [
+      | yes h ↦ rw (lt-ltb b a h, lt-leb a b h)
+      | no n ↦ rw (le-ltb b a (omega arith), le-leb a b (omega arith))
+    ]
+
+turned : (x y : ℤ) → ltZ y x ≡ not (leZ x y)
+turned (pos a) (pos b) = turnedNat a b
+turned (pos a) (negsuc b) = refl
+turned (negsuc a) (pos b) = refl
+turned (negsuc a) (negsuc b) = turnedNat b a
+
+-- the code's test of a field against its limit is the contract's, the other way round
+held : (l : ℤ) (x : ℕ) {t : Bool} → SFits w32 l → x < halfLimit → leZ (toZ w32 (ofZ w32 l)) (toZ w32 x) ≡ t → ltZ (pos x) l ≡ not t
+held l x f h e = turned l (pos x) ∙ ap not (rw (toZ-ofZ f, toZ-pos w32 {n = x} (omega (arith, h))) at e)
+
+abbrev limit : tie.Start → ℕ → ℕ → ℤ
+limit c i j = getD (getD (getD (now (c .args .limits)) i []) (c .args .op) []) j (pos 0)
+
+fits-a : (c : tie.After-if22) → SFits w32 (limit (c .before .before) 0 0)
+fits-a c = search needs
+
+fits-b : (c : tie.After-if32) → SFits w32 (limit (c .before .before .before .before) 0 1)
+fits-b c = search needs
 
 returns : tie.Need-returns
-unfolding decoded
-returns c = let e = limited-is (c .before .before) in rw (le-ltb _ _ (rw e at (c .if1 .taken)))
+unfolding decodedWithin
+returns c = rw (le-ltb _ _ (c .if1 .taken))
 
 returns-2 : tie.Need-returns-2
-unfolding decoded
+unfolding decodedWithin
 returns-2 c =
-    let e = limited-is (c .before .before .before .before) in
-    rw (lt-ltb _ _ (rw e at (c .before .before .if1 .left)), le-ltb _ _ (rw e at (c .if2 .taken)))
+    let s = c .before .before .before in
+    rw (lt-ltb _ _ (c .before .before .if1 .left), held _ (s .args .a) (fits-a (c .before)) (omega (arith, s .fits .a)) (c .if2 .taken))
+
+returns-3 : tie.Need-returns-3
+unfolding decodedWithin
+returns-3 c =
+    let a = c .before .before in
+    let s = a .before .before .before in
+    rw (
+      lt-ltb _ _ (a .before .before .if1 .left),
+      held _ (s .args .a) (fits-a (a .before)) (omega (arith, s .fits .a)) (a .if2 .left),
+      held _ (s .args .b) (fits-b (c .before)) (omega (arith, s .fits .b)) (c .if3 .taken),
+    )
 
 -- where a and b have their values, the last test decides
 last-decides : (c : tie.After-is-within) →
-    let o = c .before .before .before .before .before .before .before in
-    let a = o .before .args in
-    decoded (a .counts) (a .op) (a .a) (a .b) (a .n) ≡ (if c .is-within .result then Kind (o .limited-kind .result .4) else Refused)
-unfolding decoded
+    let s = c .before .before .before .before .before .before .before .before in
+    decodedWithin (now (s .args .limits)) (s .args .op) (s .args .a) (s .args .b) (s .args .n)
+    ≡ (if c .is-within .result then Kind (kindOf (s .args .op) (s .args .a) (s .args .b) (s .args .n)) else Refused)
+unfolding decodedWithin
 last-decides c =
-    let second = c .before .before .before in
-    let first = second .before .before in
-    let o = first .before .before in
-    let e = limited-is o in
-    let low : SFits w32 (o .limited-kind .result .2) = record { sfits = c .before .struct-told2 .given .1 .1 .0 .1 } in
-    let high : SFits w32 (o .limited-kind .result .3) = record { sfits = c .before .struct-told2 .given .1 .1 .1 .0 .1 } in
-    let within = rw (toZ-ofZ (o .before .fits .n), toZ-ofZ low, toZ-ofZ high) at (c .is-within .ensures) in
-    rw (lt-ltb _ _ (rw e at (first .if1 .left)), lt-ltb _ _ (rw e at (second .if2 .left)), e, rw e at within)
-
-returns-3 : tie.Need-returns-3
-returns-3 c = rw (last-decides (c .before), c .if3 .taken)
+    let b = c .before .before .before in
+    let a = b .before .before in
+    let s = a .before .before .before in
+    let low : SFits w32 (limit s 1 0) = search needs in
+    let high : SFits w32 (limit s 1 1) = search needs in
+    let within = rw (toZ-ofZ (s .fits .n), toZ-ofZ low, toZ-ofZ high) at (c .is-within .ensures) in
+    rw (
+      lt-ltb _ _ (a .before .before .if1 .left),
+      held _ (s .args .a) (fits-a (a .before)) (omega (arith, s .fits .a)) (a .if2 .left),
+      held _ (s .args .b) (fits-b (b .before)) (omega (arith, s .fits .b)) (b .if3 .left),
+      within,
+    )
 
 returns-4 : tie.Need-returns-4
-returns-4 c = rw (last-decides (c .before), c .if3 .left)
+returns-4 c =
+    let n = toZ-ofZ (c .before .before .before .before .before .before .before .before .before .before .fits .n) in
+    rw (last-decides (c .before .before), c .before .if4 .taken, rw n at (c .kind-of .ensures))
+
+returns-5 : tie.Need-returns-5
+returns-5 c = rw (last-decides (c .before), c .if4 .left)
 
 pub decode-spec : {M : Type 1} → statement M
-decode-spec = tie.close (tie.spec (λ c κs. search needs) returns returns-2 (λ c κs. search needs) returns-3 returns-4)
+decode-spec =
+    tie.close
+    (tie.spec
+    returns
+    (λ c. search needs)
+    (λ c. search needs)
+    (λ c. search needs)
+    (λ c. search needs)
+    (λ c. search needs)
+    returns-2
+    (λ c. search needs)
+    (λ c. search needs)
+    (λ c. search needs)
+    (λ c. search needs)
+    (λ c. search needs)
+    returns-3
+    (λ c. search needs)
+    (λ c. search needs)
+    (λ c. search needs)
+    (λ c. search needs)
+    (λ c. search needs)
+    (λ c. search needs)
+    (λ c. search needs)
+    (λ c. search needs)
+    (λ c κs. search needs)
+    (λ c κs. search needs)
+    returns-4
+    returns-5)

@@ -1,16 +1,11 @@
 -- `kinds::fields_at` meets its contract: the code reads the bytes that the contract reads, and the numbers that they hold are those of the
 -- contract. What the machine reads back of n is n, since n fits 32 bits.
-use Prim.Native.Nat.{_+_, _*_}
-use native.Mathlib.Omega.{arith}
 use borrow.Author.Needs.{needs}
 use mir.Syntax.{w32}
 use mir.Val.{SFits}
 use mir.Facts.{toZ-ofZ}
 use Rattle.kinds.proofs.fields_at.Statement.{statement}
 use Rattle.kinds.proofs.fields_at.Tie as tie
-
-cast-a : tie.Need-cast-a
-cast-a c = omega (arith, c .shared-slice-known3 .given (c .before .before .before .args .at * 8 + 1))
 
 returns : tie.Need-returns
 returns c =
@@ -26,12 +21,12 @@ fields-at-spec =
     (λ c. search needs)
     (λ c. search needs)
     (λ c. search needs)
-    cast-a
     (λ c. search needs)
     (λ c. search needs)
     (λ c. search needs)
     (λ c. search needs)
     (λ c κs. search needs)
+    (λ c. search needs)
     (λ c. search needs)
     (λ c. search needs)
     (λ c. search needs)

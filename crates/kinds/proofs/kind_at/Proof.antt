@@ -10,9 +10,9 @@ use Rattle.kinds.proofs.kind_at.Tie as tie
 returns : tie.Need-returns
 unfolding kindAt
 returns c =
-    let read = c .before .before .fields-at in
+    let read = c .before .before .before .before .fields-at in
     let n : SFits w32 (read .result .n) = search needs in
     rw (toZ-ofZ n, read .ensures) at (c .kind-of .ensures)
 
 pub kind-at-spec : {M : Type 1} → statement M
-kind-at-spec = tie.close (tie.spec (λ c κs. search needs) (λ c κs. search needs) returns)
+kind-at-spec = tie.close (tie.spec (λ c κs. search needs) (λ c. search needs) (λ c. search needs) (λ c κs. search needs) returns)

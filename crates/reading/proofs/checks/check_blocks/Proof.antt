@@ -92,28 +92,28 @@ ends : (s : List ℕ) (all r : ℕ) (kept : Answer) → all ≤ r → verdictOf 
 ends s all r kept h = rw (first-ends (nestingAt s) all r h, first-ends (pausingAt s) all r h) (sym (kept-last kept))
 
 abbrev Inv-loop : tie.InvT-loop
-Inv-loop book all unpaused₀ routine₀ unpaused routine =
+Inv-loop book limits all unpaused₀ routine₀ unpaused routine =
     (left-to-find book all routine (verdictOf unpaused) ≡ (firstRefusal (nestingAt book) all 0 orElse firstRefusal (pausingAt book) all 0))
     × (routine ≤ all)
 
 abbrev μ-loop : tie.MeasureT-loop
-μ-loop book all unpaused₀ routine₀ unpaused routine = all - routine
+μ-loop book limits all unpaused₀ routine₀ unpaused routine = all - routine
 
 abbrev book-of : tie.At-loop Inv-loop μ-loop → List ℕ
-book-of l = l .before .before .before .args .book .now
+book-of l = l .before .before .before .before .args .book .now
 
 loop-holds : tie.Need-loop-holds Inv-loop μ-loop
 loop-holds c = (rw (first-begins (nestingAt _) _, first-begins (pausingAt _) _), search needs)
 
 -- a routine that is told 5 or 6 is the answer
 stopped :
-    (c : tie.After-verdict-of Inv-loop μ-loop) {k : ℕ} → let book = book-of (c .before .before .before) in
+    (c : tie.After-verdict-of Inv-loop μ-loop) {k : ℕ} → let book = book-of (c .before .before .before .before) in
     c .verdict-of .result .number ≡ k → (k ≡ 0 → ⊥) → (k ≡ 7 → ⊥) →
     verdictOf (c .before .check-routine .result) ≡ (nestingVerdict book orElse pausingVerdict book)
 stopped c e none seven =
     let call = c .before in
-    let l = call .before .before in
-    stops (book-of l) _ _ (verdictOf (l .loop .unpaused)) (call .before .loop-test .taken) (call .check-routine .ensures)
+    let l = call .before .before .before in
+    stops (book-of l) _ _ (verdictOf (l .loop .unpaused)) (call .before .before .loop-test .taken) (call .check-routine .ensures)
     (ap (λ v. v .number) (sym (c .verdict-of .ensures)) ∙ e) none seven
     ∙ l .loop .inv .0
     ∙ whole (book-of l) (l .before .routines .ensures .0)
@@ -127,10 +127,10 @@ returns-2 c = stopped (c .before .before .before .before) (c .if2 .taken) (λ z.
 loop-again : tie.Need-loop-again Inv-loop μ-loop
 loop-again c =
     let call = c .before .before .before .before .before .before in
-    let l = call .before .before in
+    let l = call .before .before .before in
     let number = ap (λ v. v .number) (c .before .before .before .before .before .verdict-of .ensures) in
     let on =
-    goes (book-of l) _ _ (verdictOf (l .loop .unpaused)) (call .before .loop-test .taken) (call .check-routine .ensures)
+    goes (book-of l) _ _ (verdictOf (l .loop .unpaused)) (call .before .before .loop-test .taken) (call .check-routine .ensures)
     (λ z. c .before .before .before .if1 .left (number ∙ z)) (λ z. c .before .if2 .left (number ∙ z)) in
     (rw (c .first-answer .ensures) (on ∙ l .loop .inv .0), search needs)
 
@@ -139,6 +139,12 @@ returns-3 c =
     let l = c .before in
     ends (book-of l) _ _ (l .loop .unpaused) (c .loop-test .left) ∙ l .loop .inv .0 ∙ whole (book-of l) (l .before .routines .ensures .0)
 
+check-routine-requires : tie.Need-check-routine-requires Inv-loop μ-loop
+check-routine-requires c κs =
+    let limits = c .before .before .before .before in
+    let start = limits .before .before in
+    (limits .limits-in .ensures, (start .pre .0, (start .pre .1, search needs)))
+
 pub check-blocks-spec : {M : Type 1} → statement M
 check-blocks-spec =
     tie.close
@@ -146,8 +152,9 @@ check-blocks-spec =
     Inv-loop
     μ-loop
     (λ c κs. search needs)
-    loop-holds
     (λ c κs. search needs)
+    loop-holds
+    check-routine-requires
     (λ c κs. search needs)
     returns
     returns-2

@@ -1,0 +1,6 @@
+mod Views
+mod Lowered
+mod Steps
+mod Remaining
+mod OwnBlock
+mod Places
