@@ -1,8 +1,8 @@
 -- Document 01's own examples of books, by evaluation: one table, and one claim.
-use Prim.Native.Nat.{ℕ, zero, suc, _/_, _%_}
+use Prim.Native.Nat.{ℕ, zero, suc}
 use mathlib.Core.Path.{_≡_, refl}
-use mathlib.Core.List.{List, [], _∷_, _++_, map}
-use lib.ListN.{length}
+use mathlib.Core.List.{List, [], _∷_, map}
+use lib.IntN.{pos}
 use Rattle.kinds.specs.Steps.{rowOf, decoded, stepAt}
 use Rattle.numbers.specs.Below.{sumBelow}
 use Rattle.verdicts.specs.declared.Verdict.{Verdict}
@@ -11,34 +11,14 @@ use Rattle.layout.specs.Layout.{layoutVerdict}
 use Rattle.directory.specs.Directory.{stepsBefore, directoryVerdict, routinePart}
 use Rattle.blocks.specs.Blocks.{viewAt, blockBy, stepOf, routineOf}
 use Rattle.book.specs.Book.{stepsVerdict, routineWalk, nestingVerdict, pausingVerdict, bookVerdict}
-
-abbrev pub half : ℕ → List ℕ
-half n = n % 256 ∷ n / 256 ∷ []
-
--- a step with the fields op, a and n
-abbrev pub step : ℕ → ℕ → ℕ → List ℕ
-step op a n = op ∷ a ∷ 0 ∷ 0 ∷ n ∷ 0 ∷ 0 ∷ 0 ∷ []
-
-abbrev pub header : ℕ → ℕ → List ℕ
-header routines steps = half routines ++ half steps ++ half 1 ++ half 1 ++ half 12 ++ half 16
-
-unfoldable pub joined : List (List ℕ) → List ℕ
-joined [] = []
-joined (s ∷ ss) = s ++ joined ss
-
--- a book of one routine, one signal and one counter
-abbrev pub book : List (List ℕ) → List ℕ
-book steps = header 1 (length steps) ++ half 0 ++ half (length steps) ++ joined steps
-
-abbrev pub rest : List ℕ
-rest = step 6 0 0
+use Rattle.book.specs.Written.{equal, rest, restFor, wait, if, else, while, end, header, directory, oneRoutine}
 
 unfoldable pub times : ℕ → List ℕ → List (List ℕ) → List (List ℕ)
 times zero s ss = ss
 times (suc n) s ss = s ∷ times n s ss
 
 abbrev pub nested : ℕ → List ℕ
-nested n = book (times n (step 17 0 0) (times n (step 20 0 0) []))
+nested n = oneRoutine (times n (if 0 equal (pos 0)) (times n end []))
 
 pub record Example : Type 0 where
   pub bytes : List ℕ
@@ -59,18 +39,18 @@ t3 =
 abbrev pub examples : List Example
 examples =
     record { bytes = t3; tells = accepted }
-    ∷ record { bytes = book (step 19 0 0 ∷ step 8 0 0 ∷ step 20 0 0 ∷ []); tells = refused 7 0 }
-    ∷ record { bytes = book (step 19 0 0 ∷ step 7 0 0 ∷ step 20 0 0 ∷ []); tells = refused 7 0 }
-    ∷ record { bytes = book (step 19 0 0 ∷ step 17 0 0 ∷ rest ∷ step 20 0 0 ∷ step 20 0 0 ∷ []); tells = refused 7 0 }
-    ∷ record { bytes = book (step 19 0 0 ∷ step 17 0 0 ∷ rest ∷ step 18 0 0 ∷ step 20 0 0 ∷ step 20 0 0 ∷ []); tells = refused 7 0 }
-    ∷ record { bytes = book (step 19 0 0 ∷ step 17 0 0 ∷ rest ∷ step 18 0 0 ∷ rest ∷ step 20 0 0 ∷ step 20 0 0 ∷ []); tells = accepted }
-    ∷ record { bytes = header 65 0; tells = refused 2 0 }
-    ∷ record { bytes = header 1 1025; tells = refused 2 0 }
+    ∷ record { bytes = oneRoutine (while 0 equal (pos 0) ∷ wait 0 ∷ end ∷ []); tells = refused 7 0 }
+    ∷ record { bytes = oneRoutine (while 0 equal (pos 0) ∷ restFor (pos 0) ∷ end ∷ []); tells = refused 7 0 }
+    ∷ record { bytes = oneRoutine (while 0 equal (pos 0) ∷ if 0 equal (pos 0) ∷ rest ∷ end ∷ end ∷ []); tells = refused 7 0 }
+    ∷ record { bytes = oneRoutine (while 0 equal (pos 0) ∷ if 0 equal (pos 0) ∷ rest ∷ else ∷ end ∷ end ∷ []); tells = refused 7 0 }
+    ∷ record { bytes = oneRoutine (while 0 equal (pos 0) ∷ if 0 equal (pos 0) ∷ rest ∷ else ∷ rest ∷ end ∷ end ∷ []); tells = accepted }
+    ∷ record { bytes = header 65 0 1 1; tells = refused 2 0 }
+    ∷ record { bytes = header 1 1025 1 1; tells = refused 2 0 }
     ∷ record { bytes = nested 16; tells = accepted }
     ∷ record { bytes = nested 17; tells = refused 6 16 }
     ∷ []
 
 pub as-told : map (λ e. bookVerdict (e .bytes)) examples ≡ map (λ e. e .tells) examples
 unfolding bookVerdict layoutVerdict directoryVerdict stepsVerdict nestingVerdict pausingVerdict routineWalk routinePart routineOf stepOf
-    blockBy viewAt stepAt decoded rowOf stepsBefore sumBelow firstRefusal joined times
+    blockBy viewAt stepAt decoded rowOf stepsBefore sumBelow firstRefusal directory times
 as-told = refl

@@ -12,7 +12,8 @@ use Rattle.verdicts.specs.Verdicts.{refused, firstRefusal}
 use Rattle.layout.specs.Layout.{layoutVerdict, countsOf}
 use Rattle.directory.specs.Directory.{stepsBefore, directoryVerdict, routineSteps, routinePart}
 use Rattle.book.specs.Book.{stepsVerdict, routineWalk, nestingVerdict, pausingVerdict, bookVerdict}
-use Rattle.book.specs.Examples.{step, joined, book, rest, t3}
+use Rattle.book.specs.Written.{equal, rest, if, else, while, end, directory, oneRoutine}
+use Rattle.book.specs.Examples.{t3}
 use Rattle.game.specs.declared.Game.{Game}
 use Rattle.numbers.specs.Below.{allBelow, anyBelow, sumBelow}
 use Rattle.lines.specs.Lines.{isIn, appended}
@@ -41,11 +42,11 @@ afterOne = answer t3 (first t3) (pos 0 ∷ pos 0 ∷ []) .game
 
 -- "the place on the step that follows it in the book": if counter 0 equals 0, rest; else, rest
 abbrev pub restsInBoth : List ℕ
-restsInBoth = book (step 17 0 0 ∷ rest ∷ step 18 0 0 ∷ rest ∷ step 20 0 0 ∷ [])
+restsInBoth = oneRoutine (if 0 equal (pos 0) ∷ rest ∷ else ∷ rest ∷ end ∷ [])
 
 -- "an if that rests in one block": while counter 0 equals 0, if it equals 1, rest; else, nothing
 abbrev pub restsInOne : List ℕ
-restsInOne = book (step 19 0 0 ∷ step 17 0 1 ∷ rest ∷ step 18 0 0 ∷ step 20 0 0 ∷ step 20 0 0 ∷ [])
+restsInOne = oneRoutine (while 0 equal (pos 0) ∷ if 0 equal (pos 1) ∷ rest ∷ else ∷ end ∷ end ∷ [])
 
 -- the steps that its routine would take in a turn, if it were accepted
 abbrev pub stepsOn : Ticks
@@ -105,8 +106,8 @@ pub as-told :
     × (stepsOn .ending ≡ Continued)
     × (length (stepsOn .told) ≡ mostTicks (routineSteps restsInOne 0))
 unfolding answer roundVerdict written marksIn sumBelow round instant pass turn allDone ticks effectOn tick tickOf waitsFor fromEnd
-    openingBefore pastPartner atStart each kept appended isThere isEndThere numbersWith newGame blankGame withStart isSized fitsBook routineFits
-    slotFits entryFits lineFits countersFit signalsFit isIn allBelow anyBelow bookVerdict layoutVerdict directoryVerdict stepsVerdict
-    nestingVerdict pausingVerdict routineWalk routinePart routineOf stepOf blockBy partnerOf viewAt stepAt decoded rowOf stepsBefore
-    firstRefusal joined
+    openingBefore pastPartner atStart each kept appended isThere isEndThere numbersWith newGame blankGame withStart isSized fitsBook
+    routineFits slotFits entryFits lineFits countersFit signalsFit isIn allBelow anyBelow bookVerdict layoutVerdict directoryVerdict
+    stepsVerdict nestingVerdict pausingVerdict routineWalk routinePart routineOf stepOf blockBy partnerOf viewAt stepAt decoded rowOf
+    stepsBefore firstRefusal directory
 as-told = (refl, refl, refl, refl, refl, refl, refl, refl)

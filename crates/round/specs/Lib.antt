@@ -14,3 +14,4 @@ pub mod Replay
 pub mod Whole
 pub mod Again
 pub mod Examples
+pub mod Ops
