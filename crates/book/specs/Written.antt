@@ -4,6 +4,8 @@ use mathlib.Core.List.{List, [], _∷_, _++_, map, foldr}
 use lib.ListN.{length}
 use lib.IntN.{ℤ, pos, negsuc}
 use Rattle.numbers.specs.Numbers.{halfLimit, wordLimit}
+use Rattle.kinds.specs.Ops.{opMark, opSet, opAdd, opTake, opSignal, opSignalNumber, opRest, opRestFor, opWait, opWaitFor, opJoin}
+use Rattle.kinds.specs.Ops.{opJoinFor, opRead, opStart, opStop, opSuspend, opResume, opIf, opElse, opWhile, opEnd}
 
 -- "All numbers are little-endian; 16 bits unless said."
 abbrev pub half : ℕ → List ℕ
@@ -33,67 +35,67 @@ greater = 2
 
 -- the ops of document 01's table, in its order and with the fields that it names; "Fields not named are 0."
 abbrev pub mark : ℤ → List ℕ
-mark n = step 0 0 0 n
+mark n = step opMark 0 0 n
 
 abbrev pub set : ℕ → ℤ → List ℕ
-set a n = step 1 a 0 n
+set a n = step opSet a 0 n
 
 abbrev pub add : ℕ → ℤ → List ℕ
-add a n = step 2 a 0 n
+add a n = step opAdd a 0 n
 
 abbrev pub take : ℕ → ℕ → List ℕ
-take a b = step 3 a b (pos 0)
+take a b = step opTake a b (pos 0)
 
 abbrev pub signal : ℕ → List ℕ
-signal a = step 4 a 0 (pos 0)
+signal a = step opSignal a 0 (pos 0)
 
 abbrev pub signalNumber : ℕ → ℕ → List ℕ
-signalNumber a b = step 5 a b (pos 0)
+signalNumber a b = step opSignalNumber a b (pos 0)
 
 abbrev pub rest : List ℕ
-rest = step 6 0 0 (pos 0)
+rest = step opRest 0 0 (pos 0)
 
 abbrev pub restFor : ℤ → List ℕ
-restFor n = step 7 0 0 n
+restFor n = step opRestFor 0 0 n
 
 abbrev pub wait : ℕ → List ℕ
-wait a = step 8 a 0 (pos 0)
+wait a = step opWait a 0 (pos 0)
 
 abbrev pub waitFor : ℕ → ℤ → List ℕ
-waitFor a n = step 9 a 0 n
+waitFor a n = step opWaitFor a 0 n
 
 abbrev pub join : ℕ → List ℕ
-join a = step 10 a 0 (pos 0)
+join a = step opJoin a 0 (pos 0)
 
 abbrev pub joinFor : ℕ → ℤ → List ℕ
-joinFor a n = step 11 a 0 n
+joinFor a n = step opJoinFor a 0 n
 
 abbrev pub read : ℕ → ℕ → ℤ → List ℕ
-read a b k = step 12 a b k
+read a b k = step opRead a b k
 
 abbrev pub start : ℕ → List ℕ
-start a = step 13 a 0 (pos 0)
+start a = step opStart a 0 (pos 0)
 
 abbrev pub stop : ℕ → List ℕ
-stop a = step 14 a 0 (pos 0)
+stop a = step opStop a 0 (pos 0)
 
 abbrev pub suspend : ℕ → List ℕ
-suspend a = step 15 a 0 (pos 0)
+suspend a = step opSuspend a 0 (pos 0)
 
 abbrev pub resume : ℕ → List ℕ
-resume a = step 16 a 0 (pos 0)
+resume a = step opResume a 0 (pos 0)
 
 abbrev pub if : ℕ → ℕ → ℤ → List ℕ
-if a b n = step 17 a b n
+if a b n = step opIf a b n
 
 abbrev pub else : List ℕ
-else = step 18 0 0 (pos 0)
+else = step opElse 0 0 (pos 0)
 
 abbrev pub while : ℕ → ℕ → ℤ → List ℕ
-while a b n = step 19 a b n
+while a b n = step opWhile a b n
 
 abbrev pub end : List ℕ
-end = step 20 0 0 (pos 0)
+end = step opEnd 0 0 (pos 0)
 
 abbrev pub joined : {A : Type 0} → List (List A) → List A
 joined l = foldr _++_ [] l

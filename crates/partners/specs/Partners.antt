@@ -3,21 +3,9 @@ use Prim.Native.Nat.{ℕ, zero, suc, _+_, _-_}
 use mathlib.Core.Bool.{_||_}
 use mathlib.Core.List.{List}
 use lib.Dec.{eqb}
+use Rattle.kinds.specs.Ops.{opIf, opElse, opWhile, opEnd}
 use Rattle.numbers.specs.Choice.{if_then_else_}
 use Rattle.kinds.specs.Steps.{opAt}
-
--- "17 if, 19 while", "18 else, 20 end"
-abbrev pub opIf : ℕ
-opIf = 17
-
-abbrev pub opElse : ℕ
-opElse = 18
-
-abbrev pub opWhile : ℕ
-opWhile = 19
-
-abbrev pub opEnd : ℕ
-opEnd = 20
 
 -- "The search for an opening step's partner skips inner pairs and stops at the first marker that matches."
 -- Where a routine nests, the first marker in no inner pair is the one that matches. d inner pairs are open at place p.

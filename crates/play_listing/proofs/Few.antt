@@ -8,6 +8,7 @@ use native.Mathlib.Omega.{arith}
 use lib.Dec.{eqb}
 use lib.IntN.{ℤ}
 use lib.ListN.{length}
+use Rattle.kinds.specs.Ops.{opMark}
 use Rattle.kinds.specs.Steps.{opAt}
 use Rattle.verdicts.specs.declared.Verdict.{Verdict}
 use Rattle.layout.specs.Layout.{stepsOf, mostSteps}
@@ -15,7 +16,7 @@ use Rattle.book.specs.Book.{stepsPart}
 use Rattle.book.specs.Accepted.{Accepted}
 use Rattle.game.specs.declared.Game.{Game}
 use Rattle.round.specs.Rounds.{historyOf}
-use Rattle.round.specs.Answers.{opMark, marksIn, numbersPerMark, spaceFor, roundVerdict, answer}
+use Rattle.round.specs.Answers.{marksIn, numbersPerMark, spaceFor, roundVerdict, answer}
 use Rattle.round.specs.Tells.{RoundTells}
 use Rattle.round.proofs.Counting.{count-all}
 use Rattle.round.proofs.Once.{completed-once}

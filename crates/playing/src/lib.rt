@@ -26,6 +26,7 @@ ghost use Prim.Native.Nat.{_≤_};
 ghost use lib.ListN.{length};
 ghost use lib.Dec.{eqb};
 ghost use lib.IntN.{ℤ};
+ghost use Rattle.kinds.specs.Ops.{opMark};
 ghost use Rattle.numbers.specs.Choice.{if_then_else_};
 ghost use Rattle.layout.specs.Layout.{stepsOf, mostSteps};
 ghost use Rattle.verdicts.specs.Verdicts.{accepted};
@@ -150,7 +151,7 @@ pub fn round(book: &[u8], game: Game, marks: &mut [i32]) -> Played
 
 // One for a mark step, by its op, and none for any other.
 fn mark_at(op: u8) -> usize
-    ensures { λ r. ⌜ (r ≡ (if eqb op answers.opMark then 1 else 0)) × (r ≤ 1) ⌝ }
+    ensures { λ r. ⌜ (r ≡ (if eqb op opMark then 1 else 0)) × (r ≤ 1) ⌝ }
 {
     if op == OP_MARK { 1 } else { 0 }
 }

@@ -10,6 +10,7 @@ use native.Mathlib.Omega.{arith}
 use borrow.Author.Tests.{ne-eqb}
 use lib.Dec.{eqb}
 use lib.ListN.{length}
+use Rattle.kinds.specs.Ops.{opMark}
 use Rattle.numbers.specs.Choice.{if_then_else_}
 use Rattle.numbers.proofs.Tests.{clash, neither}
 use Rattle.layout.specs.Layout.{countsOf}
@@ -20,7 +21,7 @@ use Rattle.round.specs.declared.Effect.{Effect}
 use Rattle.round.specs.State.{State, Thing, Happening, gave, ended, missing, past, marked, completed}
 use Rattle.round.specs.Counting.{howMany}
 use Rattle.round.specs.Rounds.{turn, historyOf}
-use Rattle.round.specs.Answers.{opMark, marksIn}
+use Rattle.round.specs.Answers.{marksIn}
 use Rattle.round.specs.Tells.{numbersGiven}
 use Rattle.round.specs.Demand.{isSignalOp, isSignalStep, givesSignal}
 use Rattle.round.specs.Completed.{completes, isMarkStep}

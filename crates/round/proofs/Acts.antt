@@ -7,6 +7,7 @@ use mathlib.Core.List.{List, [], _∷_}
 use lib.Dec.{eqb}
 use lib.ListN.{length}
 use lib.IntN.{ℤ}
+use Rattle.kinds.specs.Ops.{opMark}
 use Rattle.numbers.specs.declared.Sum.{Sum}
 use Rattle.numbers.specs.Numbers.{CounterInRange}
 use Rattle.kinds.specs.declared.Step.{Step}
@@ -24,7 +25,6 @@ use Rattle.round.specs.declared.Act.the-variants.{Goes, Halts}
 use Rattle.round.specs.State.{State, Thing, Happening, gave, ended, missing, past, marked, numbersOf, isThere}
 use Rattle.round.specs.Jumps.{sizeOf}
 use Rattle.round.specs.Ticks.{Tick, countAt}
-use Rattle.round.specs.Answers.{opMark}
 use Rattle.round.specs.Demand.{isSignalOp, AsksFor, wait, waitFor, join, joinFor, read}
 use Rattle.round.proofs.Leads.{Leaves}
 use Rattle.round.proofs.Among.{All}

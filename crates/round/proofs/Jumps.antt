@@ -12,6 +12,7 @@ use native.Mathlib.Omega.{arith}
 use lib.Dec.{eqb}
 use lib.IntN.{ℤ}
 use borrow.Author.Tests.{ne-eqb}
+use Rattle.kinds.specs.Ops.{opWhile}
 use Rattle.numbers.specs.Choice.{if_then_else_}
 use Rattle.numbers.specs.Numbers.{countOf}
 use Rattle.kinds.specs.declared.Kind.{Kind}
@@ -21,7 +22,6 @@ use Rattle.forms.specs.declared.Form.the-variants.{Plain, Pausing, IfOpening, E
 use Rattle.kinds.specs.Steps.{opAt, fieldA, fieldB, fieldN}
 use Rattle.forms.specs.Forms.{formOf}
 use Rattle.blocks.specs.Blocks.{View, stands}
-use Rattle.partners.specs.Partners.{opWhile}
 use Rattle.blocks.specs.Parse.{ParsedBlock, empty, more, ParsedStep, plain, pausing, ifOnly, ifElse, loop}
 use Rattle.kinds.proofs.Rows.{_and_, Kinds, kind-holds}
 use Rattle.partners.proofs.Scan.{kind-there, finds-partner}

@@ -8,6 +8,7 @@ use mathlib.Core.Logic.{_↔_}
 use borrow.Author.Tests.{eq-eqb, eqb-true}
 use lib.Dec.{eqb}
 use lib.IntN.{ℤ}
+use Rattle.kinds.specs.Ops.{opMark}
 use Rattle.kinds.specs.declared.Kind.{Kind}
 use Rattle.kinds.specs.declared.Kind.the-variants.{Mark}
 use Rattle.kinds.specs.declared.Step.the-variants as step
@@ -19,7 +20,7 @@ use Rattle.book.specs.Book.{stepsPart}
 use Rattle.book.specs.Accepted.{Accepted}
 use Rattle.book.proofs.Routines.{step-kind}
 use Rattle.round.specs.State.{Happening, gave, ended, missing, past, marked, completed}
-use Rattle.round.specs.Answers.{opMark, markSteps, marksIn}
+use Rattle.round.specs.Answers.{markSteps, marksIn}
 use Rattle.round.proofs.Counting.{Counted, counted}
 use Rattle.round.proofs.Forms.{step-op}
 

@@ -7,6 +7,7 @@ use mathlib.Core.List.{List}
 use native.Mathlib.Omega.{arith}
 use lib.Dec.{eqb}
 use lib.ListN.{length}
+use Rattle.kinds.specs.Ops.{opMark}
 use Rattle.layout.specs.Layout.{stepsOf}
 use Rattle.book.specs.Accepted.{Accepted}
 use Rattle.game.specs.declared.Game.{Game}
@@ -14,7 +15,7 @@ use Rattle.fitting.specs.Fits.{Fits}
 use Rattle.round.specs.Counting.{stepsIn, howMany}
 use Rattle.round.specs.Actions.{atStart}
 use Rattle.round.specs.Rounds.{listedIn, round, historyOf}
-use Rattle.round.specs.Answers.{opMark, marksIn}
+use Rattle.round.specs.Answers.{marksIn}
 use Rattle.round.specs.Tells.{numbersGiven}
 use Rattle.round.specs.Demand.{isSignalStep, givesSignal}
 use Rattle.round.specs.Completed.{completes, theStep, isMarkStep, isAddition, CompletedOnce}

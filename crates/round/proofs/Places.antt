@@ -8,6 +8,7 @@ use mathlib.Core.Logic.{_⊎_, inl}
 use native.Mathlib.Decide.{decLt}
 use native.Mathlib.Omega.{arith}
 use borrow.Author.Tests.{eq-eqb}
+use Rattle.kinds.specs.Ops.{opRest, opRestFor}
 use Rattle.numbers.proofs.Tests.{clash}
 use Rattle.kinds.specs.declared.Kind.{Kind}
 use Rattle.kinds.specs.declared.Step.{Step}
@@ -29,7 +30,7 @@ use Rattle.round.specs.Counting.{howMany, Somewhere}
 use Rattle.round.specs.Jumps.{sizeOf}
 use Rattle.round.specs.Ticks.{telling, tick, effectOn}
 use Rattle.round.specs.Rounds.{Ticks, ticks}
-use Rattle.round.specs.Replay.{opRest, opRestFor, Contents, leftBy, atStep, leadsTo, madeOf, contentsAfter, ledBy, placeAfter}
+use Rattle.round.specs.Replay.{Contents, leftBy, atStep, leadsTo, madeOf, contentsAfter, ledBy, placeAfter}
 use Rattle.round.specs.Whole.{isOf}
 use Rattle.round.proofs.Acts.{Says, silent, marks, gives, givesNumber, finds, Stops, ends, rests, misses, continues}
 use Rattle.round.proofs.Among.{in-second as later}

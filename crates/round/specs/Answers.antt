@@ -4,6 +4,7 @@ use mathlib.Core.List.{List, [], _∷_, _++_}
 use lib.Dec.{eqb, leb}
 use lib.ListN.{length, drop}
 use lib.IntN.{ℤ, pos}
+use Rattle.kinds.specs.Ops.{opMark}
 use Rattle.numbers.specs.Choice.{if_then_else_}
 use Rattle.kinds.specs.Steps.{opAt}
 use Rattle.verdicts.specs.declared.Verdict.{Verdict}
@@ -15,10 +16,6 @@ use Rattle.orders.specs.Orders.{fitVerdict}
 use Rattle.round.specs.State.{Happening, gave, ended, missing, past, marked, completed}
 use Rattle.round.specs.Counting.{countBelow}
 use Rattle.round.specs.Rounds.{Round, round}
-
--- "0 mark"
-abbrev pub opMark : ℕ
-opMark = 0
 
 -- how many of the first n steps of a part of the book are mark steps
 abbrev pub markSteps : List ℕ → ℕ → ℕ

@@ -4,6 +4,7 @@ use mathlib.Core.Bool.{Bool, false, _&&_, _||_}
 use mathlib.Core.List.{List}
 use lib.Dec.{eqb}
 use lib.ListN.{length}
+use Rattle.kinds.specs.Ops.{opMark, opAdd, opTake}
 use Rattle.kinds.specs.Steps.{opAt}
 use Rattle.layout.specs.Layout.{mostSteps}
 use Rattle.directory.specs.Directory.{routineSteps}
@@ -11,7 +12,7 @@ use Rattle.game.specs.declared.Game.{Game}
 use Rattle.round.specs.State.{Happening, gave, ended, missing, past, marked, completed}
 use Rattle.round.specs.Counting.{stepsIn, howMany}
 use Rattle.round.specs.Rounds.{listedIn, historyOf}
-use Rattle.round.specs.Answers.{opMark, marksIn, numbersPerMark, spaceFor, mostNumbers}
+use Rattle.round.specs.Answers.{marksIn, numbersPerMark, spaceFor, mostNumbers}
 use Rattle.round.specs.Tells.{numbersGiven}
 use Rattle.round.specs.Demand.{isSignalStep, givesSignal}
 
@@ -31,13 +32,6 @@ theStep r p q o = eqb q r && eqb o p
 -- "0 mark"
 abbrev pub isMarkStep : List ℕ → ℕ → ℕ → Bool
 isMarkStep book r p = eqb (opAt (routineSteps book r) p) opMark
-
--- "2 add", "3 take"
-abbrev pub opAdd : ℕ
-opAdd = 2
-
-abbrev pub opTake : ℕ
-opTake = 3
 
 abbrev pub isAddition : List ℕ → ℕ → ℕ → Bool
 isAddition book r p = let op = opAt (routineSteps book r) p in eqb op opAdd || eqb op opTake

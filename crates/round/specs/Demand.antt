@@ -7,6 +7,7 @@ use mathlib.Core.Bool.{Bool, true, false, _||_}
 use mathlib.Core.List.{List, _∷_, _++_}
 use mathlib.Core.Logic.{_⊎_}
 use lib.Dec.{eqb}
+use Rattle.kinds.specs.Ops.{opSignal, opSignalNumber}
 use Rattle.kinds.specs.declared.Kind.the-variants as kind
 use Rattle.kinds.specs.declared.Step.{Step}
 use Rattle.kinds.specs.declared.Step.the-variants as step
@@ -19,13 +20,6 @@ use Rattle.round.specs.State.{Thing, signal, end, number, Happening, gav
 use Rattle.round.specs.Counting.{stepsIn, howMany, Somewhere, Among}
 use Rattle.round.specs.Actions.{atStart}
 use Rattle.round.specs.Rounds.{listedIn, historyOf}
-
--- "4 signal", "5 signal with number"
-abbrev pub opSignal : ℕ
-opSignal = 4
-
-abbrev pub opSignalNumber : ℕ
-opSignalNumber = 5
 
 -- "A signal step is one of op 4 or 5"
 abbrev pub isSignalOp : ℕ → Bool

@@ -5,9 +5,10 @@ use mathlib.Core.Bool.{_||_}
 use mathlib.Core.List.{List}
 use lib.Dec.{eqb}
 use lib.ListN.{length}
+use Rattle.kinds.specs.Ops.{opIf, opWhile, opEnd}
 use Rattle.numbers.specs.Choice.{if_then_else_}
 use Rattle.kinds.specs.Steps.{stepBytes, opAt}
-use Rattle.partners.specs.Partners.{opIf, opWhile, opEnd, partnerOf}
+use Rattle.partners.specs.Partners.{partnerOf}
 
 -- how many steps a routine's part of the book has
 abbrev pub sizeOf : List ℕ → ℕ

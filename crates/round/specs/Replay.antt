@@ -5,28 +5,13 @@ use mathlib.Core.List.{List, [], _∷_, _++_}
 use lib.Dec.{eqb}
 use lib.ListN.{getD, set}
 use lib.IntN.{ℤ, pos}
+use Rattle.kinds.specs.Ops.{opSet, opAdd, opTake, opSignalNumber, opRest, opRead, opIf, opElse, opWhile, opEnd}
 use Rattle.numbers.specs.Choice.{if_then_else_}
 use Rattle.numbers.specs.Numbers.{sumOf, relationOf, countOf}
 use Rattle.kinds.specs.Steps.{opAt, fieldA, fieldB, fieldN}
-use Rattle.partners.specs.Partners.{opIf, opElse, opWhile, opEnd}
 use Rattle.directory.specs.Directory.{routineSteps}
 use Rattle.round.specs.State.{Happening, gave, ended, missing, past, marked, completed, numbersWith}
 use Rattle.round.specs.Jumps.{pastPartner, fromEnd}
-use Rattle.round.specs.Demand.{opSignalNumber}
-use Rattle.round.specs.Completed.{opAdd, opTake}
-
--- "1 set", "6 rest, 7 rest n", "12 read"
-abbrev pub opSet : ℕ
-opSet = 1
-
-abbrev pub opRest : ℕ
-opRest = 6
-
-abbrev pub opRestFor : ℕ
-opRestFor = 7
-
-abbrev pub opRead : ℕ
-opRead = 12
 
 -- the counters, and the numbers given so far, in order, each behind its signal
 abbrev pub Contents : Type 0

@@ -11,6 +11,7 @@ use mathlib.Core.List.{List, [], _∷_, _++_}
 use mathlib.Core.Logic.{_⊎_, _↔_}
 use lib.Dec.{eqb}
 use lib.ListN.{length}
+use Rattle.kinds.specs.Ops.{opRest, opRestFor}
 use Rattle.kinds.specs.Steps.{opAt}
 use Rattle.forms.specs.Timed.{Timed}
 use Rattle.layout.specs.Layout.{routinesOf}
@@ -29,7 +30,7 @@ use Rattle.round.specs.Rounds.{listedIn, round, historyOf}
 use Rattle.round.specs.Demand.{isSignalStep, givesSignal, endsRoutine, AsksFor, Comes}
 use Rattle.round.specs.Answers.{marksIn}
 use Rattle.round.specs.Completed.{completes, isMarkStep}
-use Rattle.round.specs.Replay.{opRest, opRestFor, leftBy, contentsAfter, placeAfter}
+use Rattle.round.specs.Replay.{leftBy, contentsAfter, placeAfter}
 
 -- a try finds its thing missing
 abbrev pub isMiss : Happening → Bool

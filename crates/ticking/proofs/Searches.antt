@@ -6,9 +6,10 @@ use mathlib.Core.List.{List}
 use native.Mathlib.Omega.{arith}
 use native.Mathlib.Numerals.{sub-one}
 use lib.Dec.{eqb}
+use Rattle.kinds.specs.Ops.{opIf, opElse, opWhile, opEnd}
 use Rattle.numbers.proofs.Tests.{by-test}
 use Rattle.kinds.specs.Steps.{opAt}
-use Rattle.partners.specs.Partners.{opIf, opElse, opWhile, opEnd, partnerBy, partnerOf}
+use Rattle.partners.specs.Partners.{partnerBy, partnerOf}
 use Rattle.round.specs.Jumps.{openingBy, openingBefore}
 
 pub opening-on :

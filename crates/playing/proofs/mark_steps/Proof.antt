@@ -9,11 +9,12 @@ use borrow.Author.Needs.{needs}
 use lib.Dec.{eqb}
 use lib.ListN.{getD}
 use lib.Seq.{getD-drop}
+use Rattle.kinds.specs.Ops.{opMark}
 use Rattle.numbers.specs.Below.{sumBelow}
 use Rattle.kinds.specs.Steps.{stepBytes}
 use Rattle.layout.specs.Layout.{stepsFrom}
 use Rattle.book.specs.Book.{stepsPart}
-use Rattle.round.specs.Answers.{opMark, markSteps}
+use Rattle.round.specs.Answers.{markSteps}
 use Rattle.round.proofs.Counting.{one}
 use Rattle.playing.proofs.mark_steps.Statement.{statement}
 use Rattle.playing.proofs.mark_steps.Tie as tie
