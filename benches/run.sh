@@ -1,6 +1,6 @@
 #!/bin/sh
 # Builds the archives that the benches link, then compares and times, in five builds that differ in where the linker puts the functions.
-# Ends with a table: for each line that was timed, the lowest and the highest plain / library of the five.
+# Ends with a table: for each line that was timed, the mean, the lowest and the highest plain / library of the five.
 set -e
 cd "$(dirname "$0")/.."
 mkdir -p target
@@ -13,12 +13,14 @@ for placement in 1 2 3 4 5; do
     echo "build $placement:"
     cat target/benches.$placement
 done
-echo "plain / library, lowest and highest of the five builds:"
+echo "plain / library, mean, lowest and highest of the five builds:"
 awk -F ': library|plain / library ' '
     NF == 3 {
         if (!($1 in low)) { name[++lines] = $1; low[$1] = high[$1] = $3 }
         if ($3 < low[$1]) low[$1] = $3
         if ($3 > high[$1]) high[$1] = $3
+        sum[$1] += $3
+        times[$1]++
     }
-    END { for (i = 1; i <= lines; i++) print name[i] ": " low[name[i]] " to " high[name[i]] }
+    END { for (i = 1; i <= lines; i++) { n = name[i]; printf "%s: %.2f, %s to %s\n", n, sum[n] / times[n], low[n], high[n] } }
 ' target/benches.[1-5]
