@@ -109,18 +109,32 @@ fn field_limits(routines: u16, signals: u16, counters: u16) -> Pairs
 fn number_limits() -> Pairs
     ensures { λ x. ⌜ x ≡ numberLimits ⌝ }
 {
-    let named = [LOWEST, HIGHEST];
-    let mut pairs = [[0; 2]; OPS];
-    pairs[0] = named;
-    pairs[1] = named;
-    pairs[2] = named;
-    pairs[7] = named;
-    pairs[9] = named;
-    pairs[11] = named;
-    pairs[12] = [1, MOST_READ];
-    pairs[17] = named;
-    pairs[19] = named;
-    pairs
+    let l = LOWEST;
+    let h = HIGHEST;
+    let m = MOST_READ;
+    [
+        [l, h],
+        [l, h],
+        [l, h],
+        [0, 0],
+        [0, 0],
+        [0, 0],
+        [0, 0],
+        [l, h],
+        [0, 0],
+        [l, h],
+        [0, 0],
+        [l, h],
+        [1, m],
+        [0, 0],
+        [0, 0],
+        [0, 0],
+        [0, 0],
+        [l, h],
+        [0, 0],
+        [l, h],
+        [0, 0],
+    ]
 }
 
 // The limits of a book with so many routines, signals and counters.
