@@ -5,11 +5,16 @@ use mathlib.Core.Path.{_≡_, refl}
 use mathlib.Core.List.{List}
 use native.Mathlib.Nat.{lt-of-lt-of-le}
 use native.Mathlib.Omega.{arith}
-use Rattle.layout.specs.Layout.{mostRoutines, mostSignals, countsOf}
+use Rattle.kinds.specs.declared.Counts.{Counts}
+use Rattle.layout.specs.Layout.{mostRoutines, mostSignals, mostCounters, countsOf}
 use Rattle.book.specs.Accepted.{CountsInRange}
 use Rattle.game.specs.declared.Game.{Game}
-use Rattle.orders.specs.Orders.{orderCount, mostCounts, orderVerdict}
+use Rattle.orders.specs.Orders.{orderCount, orderVerdict}
 use Rattle.orders.proofs.Telling.{told-right, order-tells}
+
+-- the most routines, signals and counters that there can be: an accepted order names a number below these, whatever the book
+abbrev pub mostCounts : Counts
+mostCounts = record { routines = mostRoutines; signals = mostSignals; counters = mostCounters }
 
 at-most : (s : List ℕ) → CountsInRange s → (kind : ℕ) → orderCount (countsOf s) kind ≤ orderCount mostCounts kind
 at-most s c zero = c .fewSignals

@@ -7,7 +7,7 @@ use lib.ListN.{getD, set}
 use Rattle.kinds.specs.declared.Counts.{Counts}
 use Rattle.verdicts.specs.declared.Verdict.{Verdict}
 use Rattle.verdicts.specs.Verdicts.{refused, _orElse_, unless}
-use Rattle.layout.specs.Layout.{mostRoutines, mostSignals, mostCounters, countsOf}
+use Rattle.layout.specs.Layout.{countsOf}
 use Rattle.book.specs.Book.{bookVerdict}
 use Rattle.game.specs.declared.Game.{Game}
 use Rattle.game.specs.Game.{routineAt, withStop, withSuspend, withResume, withStart, withStarting, withBroadcast, withRoutine}
@@ -21,10 +21,6 @@ orderCount counts kind =
     let E = counts .signals in
     let R = counts .routines in
     getD (E ∷ R ∷ R ∷ R ∷ R ∷ []) kind 0
-
--- the most routines, signals and counters that there can be: an accepted order names a number below these, whatever the book
-abbrev pub mostCounts : Counts
-mostCounts = record { routines = mostRoutines; signals = mostSignals; counters = mostCounters }
 
 -- 9. "The game doesn't fit the book."
 abbrev pub fitVerdict : List ℕ → Game → Verdict

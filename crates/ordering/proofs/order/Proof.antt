@@ -12,9 +12,9 @@ use Rattle.game.specs.declared.Game.{Game}
 use Rattle.setup.specs.declared.Outcome.{Outcome}
 use Rattle.setup.specs.SetUp.{GivesFitting}
 use Rattle.setup.proofs.Answers.{promised}
-use Rattle.orders.specs.Orders.{orderCount, mostCounts, obeyed, ordered}
+use Rattle.orders.specs.Orders.{orderCount, obeyed, ordered}
 use Rattle.orders.proofs.After.{order-fits}
-use Rattle.orders.proofs.Counts.{nameable, in-signals, in-routines}
+use Rattle.orders.proofs.Counts.{mostCounts, nameable, in-signals, in-routines}
 use Rattle.ordering.proofs.order.Statement.{statement}
 use Rattle.ordering.proofs.order.Tie as tie
 
