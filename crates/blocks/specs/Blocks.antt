@@ -98,9 +98,6 @@ module _ (at : ℕ → View) (n : ℕ) where
   abbrev pub blockOf : ℕ → ℕ → Walk
   blockOf d p = blockBy (stepOf d) (n - p) p false n
 
-  abbrev pub elseOf : ℕ → ℕ → ℕ → Bool → ℕ → Walk
-  elseOf d p q u l = elseBy (blockOf d) p q u l
-
   abbrev pub ifOf : ℕ → ℕ → Walk
   ifOf d p = ifBy (blockOf d) p
 

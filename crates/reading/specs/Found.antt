@@ -60,11 +60,11 @@ unclosedOf (Misnested q u l) p = Misnested q u l
 
 -- what is found of the last block of a step opened at p, as the walk over that step: it ends behind its end
 abbrev pub heldOf : ℕ → Found → Walk
-heldOf p (Past q u l) = walkOf (unclosedOf (Past q u l) p)
-heldOf p (AtElse q u l) = walkOf (unclosedOf (AtElse q u l) p)
+heldOf p (Past q u l) = walk.Fault (fault.Misnested p)
+heldOf p (AtElse q u l) = walk.Fault (fault.Misnested q)
 heldOf p (AtEnd q u l) = walk.Past (q + 1) u l
-heldOf p (Unreadable q u l) = walkOf (unclosedOf (Unreadable q u l) p)
-heldOf p (Misnested q u l) = walkOf (unclosedOf (Misnested q u l) p)
+heldOf p (Unreadable q u l) = walk.Fault (fault.Unreadable q)
+heldOf p (Misnested q u l) = walk.Fault (fault.Misnested q)
 
 -- the walk w, where l is the lowest endless while that was met before it
 abbrev pub lowered : ℕ → Walk → Walk
