@@ -11,6 +11,7 @@ use Rattle.kinds.specs.declared.Kind.{Kind}
 use Rattle.kinds.specs.declared.Step.the-variants as step
 use Rattle.kinds.specs.declared.Counts.{Counts}
 use Rattle.kinds.specs.Steps.{Row, table, unknown, rowOf, kindOf, opAt, fieldA, fieldB, fieldN, kindAt, stepAt}
+use Rattle.kinds.specs.Limits.{ops}
 use Rattle.kinds.proofs.Readable.{step-below, readable-step, step-readable}
 
 module _ (counts : Counts) (s : List ℕ) (i : ℕ) where
@@ -31,13 +32,13 @@ from-none : (n k : ℕ) → NoneBelow n k → k ≤ n
 from-none n zero h = omega arith
 from-none n (suc k) h = let l = from-none n k (h .0) in omega arith
 
--- an op past the table has no row, and one that is none of the 21 lies past it
-pub past-table : (op : ℕ) → 21 ≤ op → rowOf op ≡ unknown
+-- an op past the table has no row, and one that is none of the table's lies past it
+pub past-table : (op : ℕ) → ops ≤ op → rowOf op ≡ unknown
 unfolding rowOf
 past-table op h = List·getD-eq-default table unknown h
 
-pub unknown-op : (op : ℕ) → NoneBelow op 21 → rowOf op ≡ unknown
-unknown-op op h = past-table op (from-none op 21 h)
+pub unknown-op : (op : ℕ) → NoneBelow op ops → rowOf op ≡ unknown
+unknown-op op h = past-table op (from-none op ops h)
 
 -- what holds of a row, and what holds of the rows behind it
 infixr 5 _and_

@@ -1,6 +1,6 @@
 -- `readers::read_routine` meets its contract: the part up to the routine's last step has just its steps, and what is found of the block
 -- that they are is the walk over the routine.
-use Prim.Native.Nat.{_*_, _/_}
+use Prim.Native.Nat.{_*_}
 use mathlib.Core.Path.{_≡_, sym}
 use native.Mathlib.Omega.{arith}
 use borrow.Author.Needs.{needs}
@@ -10,6 +10,7 @@ use lib.Seq.{length-take-le}
 use Rattle.kinds.specs.Steps.{stepBytes}
 use Rattle.blocks.specs.Blocks.{routineOf}
 use Rattle.reading.specs.Found.{viewBy}
+use Rattle.reading.proofs.Views.{steps-taken}
 use Rattle.reading.proofs.OwnBlock.{whole, routine-found}
 use Rattle.reading.proofs.readers.read_routine.Statement.{statement}
 use Rattle.reading.proofs.readers.read_routine.Tie as tie
@@ -24,7 +25,7 @@ found :
     ≡ routineOf (viewBy (now (s .args .limits)) (take (stepBytes * s .args .count) (now (s .args .part)))) (s .args .count)
 found c =
     let s = c .before .before .before in
-    let n : length (take (stepBytes * s .args .count) (now (s .args .part))) / stepBytes ≡ s .args .count = omega (arith, bytes s) in
+    let n = steps-taken (now (s .args .part)) (s .args .count) (s .pre) in
     rw n at (routine-found _ _ (c .read-block .result) (rw n (rw n at (c .read-block .ensures .0))) (c .read-block .ensures .1))
 
 pub read-routine-spec : {M : Type 1} → statement M
