@@ -67,8 +67,8 @@ examples =
     ∷ []
 
 pub as-told : map (λ e. ordered t3 (e .game) (e .kind) (e .number) .verdict) examples ≡ map (λ e. e .tells) examples
-unfolding ordered orderVerdict newGame isSized fitsBook routineFits slotFits entryFits lineFits countersFit signalsFit isIn allBelow anyBelow
-    bookVerdict layoutVerdict directoryVerdict stepsVerdict nestingVerdict pausingVerdict routineWalk routinePart routineOf stepOf
+unfolding ordered orderVerdict newGame isSized fitsBook routineFits slotFits entryFits lineFits countersFit signalsFit isIn allBelow
+    anyBelow bookVerdict layoutVerdict directoryVerdict stepsVerdict nestingVerdict pausingVerdict routineWalk routinePart routineOf stepOf
     blockBy viewAt stepAt decoded rowOf stepsBefore sumBelow firstRefusal
 as-told = refl
 

@@ -27,7 +27,8 @@ ghost use Rattle.layout.specs.Layout.{routinesOf, countsOf, layoutVerdict};
 ghost use Rattle.directory.specs.Directory.{directoryVerdict};
 ghost use Rattle.book.specs.Book.{stepsVerdict, nestingVerdict, pausingVerdict, nestingAt, pausingAt};
 
-// Refusal 5, over the whole book. Only a book that nests wrongly needs it: in any other the readers of blocks have met the first wrong step.
+// Refusal 5, over the whole book. Only a book that nests wrongly needs it: in any other the readers of blocks have met the first wrong
+// step.
 pub fn check_steps(book: &[u8]) -> Answer
     requires { ⌜ layoutVerdict (now book) ≡ accepted ⌝ }
     ensures { λ r. ⌜ verdictOf r ≡ stepsVerdict (now (book .entry)) ⌝ }

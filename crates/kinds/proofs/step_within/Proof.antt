@@ -1,5 +1,5 @@
--- `kinds::step_within` meets its contract, by those of `fields_at` and `decode`: the test that the step's eight bytes are there is the same.
--- What the machine reads back of n is n, since n fits 32 bits.
+-- `kinds::step_within` meets its contract, by those of `fields_at` and `decode`: the test that the step's eight bytes are there is the
+-- same. What the machine reads back of n is n, since n fits 32 bits.
 use borrow.Author.Needs.{needs}
 use borrow.Author.Tests.{lt-ltb, le-ltb}
 use mir.Syntax.{w32}

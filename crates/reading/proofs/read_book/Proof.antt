@@ -41,7 +41,8 @@ unfolding bookVerdict
 returns-3 c =
     let blocks = c .before .check-blocks in
     let entries = c .before .before in
-    let one = one-reading _ (in-order entries) (λ z. not-six (blocks .result) (c .match3 .keys2) (ap (λ v. v .number) (blocks .ensures) ∙ z)) in
+    let number = ap (λ v. v .number) (blocks .ensures) in
+    let one = one-reading _ (in-order entries) (λ z. not-six (blocks .result) (c .match3 .keys2) (number ∙ z)) in
     rw (laid (entries .before .before .before), in-order entries, one) (blocks .ensures)
 
 check-steps-requires : tie.Need-check-steps-requires
