@@ -235,6 +235,7 @@ use lib.Dec.{eqb, ltb}
 use lib.ListN.{set, take, drop, replicate}
 use lib.IntN.{ℤ, pos}
 use Rattle.numbers.specs.Choice.{if_then_else_}
+use Rattle.numbers.specs.Counting.{howMany}
 use Rattle.verdicts.specs.declared.Verdict.{Verdict}
 use Rattle.verdicts.specs.Verdicts.{_orElse_}
 use Rattle.layout.specs.Layout.{mostRoutines, mostSignals, routinesOf, countsOf}
@@ -245,17 +246,18 @@ use Rattle.lines.specs.declared.Line.{Line}
 use Rattle.game.specs.declared.Game.{Game}
 use Rattle.lines.specs.Lines.{entriesOf}
 use Rattle.game.specs.Game.{blankGame, routineAt, isBroadcast, withCounter}
-use Rattle.setup.specs.declared.Outcome.{Outcome}
-use Rattle.setup.specs.SetUp.{unlessRefused, newGame, setUp}
-use Rattle.orders.specs.Orders.{fitVerdict, numberVerdict, orderVerdict, obeyed, ordered}
+use Rattle.setup.specs.SetUp.{newGame, setUp}
+use Rattle.orders.specs.Orders.{numberVerdict, orderVerdict, obeyed, ordered}
 use Rattle.round.specs.declared.Ending.the-variants.{Ended, Rested, Missed, Continued}
 use Rattle.round.specs.Actions.{atStart}
-use Rattle.round.specs.Counting.{stepsIn, howMany}
+use Rattle.game.specs.declared.Outcome.{Outcome}
+use Rattle.game.specs.Outcomes.{unlessRefused}
+use Rattle.fitting.specs.Fitting.{fitVerdict}
 use Rattle.round.specs.declared.Turn.{Turn}
 use Rattle.round.specs.declared.Turn.the-variants.{PassedOver, Took}
 use Rattle.round.specs.Rounds as rounds
 use Rattle.round.specs.Answers.{numbersPerMark, spaceVerdict, numbersVerdict, roundVerdict, Answer, turnedDown, playedOut, answer}
-use Rattle.round.specs.Demand.{isSignalStep, givesSignal, endsRoutine}
+use Rattle.round.specs.claims.Demand.{isSignalStep, givesSignal, endsRoutine, countSteps}
 use Rattle.round.specs.Evaluation.{roundIn, round-in}
 
 -- The calls, given the book's verdict b, which is claimed once for each book, and the round p.
@@ -458,7 +460,7 @@ done Facts t =
           (t .last .passes
           ∷ howMany givesSignal told
           ∷ howMany endsRoutine told
-          ∷ stepsIn (t .bookLent) (isSignalStep (t .bookLent)) listed
+          ∷ countSteps (t .bookLent) (isSignalStep (t .bookLent)) listed
           ∷ [])
           ∷ [];
       table = t;
@@ -500,6 +502,7 @@ use mathlib.Core.Path.{_≡_, refl}
 use mathlib.Core.List.{List, [], _∷_}
 use lib.ListN.{replicate}
 use lib.IntN.{ℤ, pos, negsuc}
+use Rattle.numbers.specs.Counting.{sumOver, howMany, allBelow, anyBelow, sumBelow}
 use Rattle.kinds.specs.Steps.{rowOf, decoded, stepAt}
 use Rattle.blocks.specs.Blocks.{blockBy, stepOf, routineOf}
 use Rattle.partners.specs.Partners.{partnerOf}
@@ -507,7 +510,6 @@ use Rattle.verdicts.specs.Verdicts.{refused, firstRefusal}
 use Rattle.layout.specs.Layout.{layoutVerdict}
 use Rattle.directory.specs.Directory.{stepsBefore, directoryVerdict, routinePart}
 use Rattle.book.specs.Book.{bookVerdict}
-use Rattle.numbers.specs.Below.{allBelow, anyBelow, sumBelow}
 use Rattle.lines.specs.Lines.{isIn, appended}
 use Rattle.game.specs.Game.{blankGame, withStart}
 use Rattle.fitting.specs.Arrays.{entryFits, lineFits, countersFit, signalsFit}
@@ -520,7 +522,6 @@ use Rattle.round.specs.Actions.{kept, each, atStart}
 use Rattle.round.specs.Jumps.{pastPartner, openingBefore, fromEnd}
 use Rattle.round.specs.Ticks.{waitsFor, tickOf, effectOn}
 use Rattle.round.specs.Rounds.{allDone}
-use Rattle.round.specs.Counting.{sumOver, howMany}
 use Rattle.round.specs.Answers.{marksIn, written}
 use Rattle.round.specs.Evaluation.{firstSteps, book-verdict, ticksBy, passBy, instantBy}
 use Rattle.round.specs.Script.{Command, Book, Read, Show, SetUp, Order, Round, Poke, PokeCounter, Log, Facts, Dump, Lines}

@@ -1,6 +1,6 @@
 -- A step of a part is the step at its place in the whole: in the part where a routine begins, and in the part that showing it gives.
 -- A step is read from its eight bytes alone, so it is enough that the part has these bytes, and that it is long enough where the whole is.
-use Prim.Native.Nat.{ℕ, _+_, _*_, _/_, _≤_, _<_}
+use Prim.Native.Nat.{ℕ, _+_, _*_, _≤_, _<_}
 use mathlib.Core.Path.{_≡_, _∙_, sym}
 use mathlib.Core.List.{List}
 use native.Mathlib.Nat.{add-zero}
@@ -11,15 +11,15 @@ use lib.Seq.{getD-take, getD-drop, drop-drop, length-take-le}
 use Rattle.kinds.specs.declared.Counts.{Counts}
 use Rattle.layout.specs.Layout.{stepsOf, stepsFrom}
 use Rattle.directory.specs.Directory.{firstStep, stepCount, routinePart, routineSteps}
-use Rattle.kinds.specs.Steps.{stepBytes, decoded, opAt, fieldA, fieldB, fieldN, stepAt}
+use Rattle.kinds.specs.Steps.{stepBytes, stepsIn, decoded, opAt, fieldA, fieldB, fieldN, stepAt}
 use Rattle.book.specs.Book.{stepsPart}
 use Rattle.kinds.proofs.Readable.{step-there, step-missing}
 
 -- step i of s has the bytes of step j of t, and is there if that one is
 pub record SameStep (s : List ℕ) (i : ℕ) (t : List ℕ) (j : ℕ) : Type 0 where
   pub bytes : (b : ℕ) → b < stepBytes → getD s (i * stepBytes + b) 0 ≡ getD t (j * stepBytes + b) 0
-  pub there : j < length t / stepBytes → i < length s / stepBytes
-  pub missing : length t / stepBytes ≤ j → length s / stepBytes ≤ i
+  pub there : j < stepsIn t → i < stepsIn s
+  pub missing : stepsIn t ≤ j → stepsIn s ≤ i
 
 module _ {s : List ℕ} {i : ℕ} {t : List ℕ} {j : ℕ} (same : SameStep s i t j) where
   same-op : opAt s i ≡ opAt t j
@@ -42,7 +42,7 @@ module _ {s : List ℕ} {i : ℕ} {t : List ℕ} {j : ℕ} (same : SameStep s i 
 
   pub same-step : (counts : Counts) → stepAt counts s i ≡ stepAt counts t j
   same-step counts =
-      elim (decLt j (length t / stepBytes)) [
+      elim (decLt j (stepsIn t)) [
         | yes h ↦ step-there counts s i (same .there h) ∙ same-decoded counts ∙ sym (step-there counts t j h)
         | no n ↦ step-missing counts s i (same .missing (omega arith)) ∙ sym (step-missing counts t j (omega arith))
       ]
@@ -71,7 +71,7 @@ module _ (k : ℕ) (s : List ℕ) (i : ℕ) where
 
 pub step-of-book :
     (s : List ℕ) → length s ≡ stepsFrom s + stepBytes * stepsOf s →
-    (i : ℕ) → i < stepsOf s → i < length (stepsPart s) / stepBytes
+    (i : ℕ) → i < stepsOf s → i < stepsIn (stepsPart s)
 step-of-book s size i h = rw length-drop (omega arith)
 
 module _ (s : List ℕ) (r : ℕ) where

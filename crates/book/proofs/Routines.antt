@@ -1,7 +1,7 @@
 -- What the layers above lean on in an accepted book: each routine is read through the part of the book that showing it gives.
 -- That part is the routine's own steps, so its steps and places are those of the book.
 -- As functions the places are equal, so what the book's clauses say of the one holds of the other.
-use Prim.Native.Nat.{ℕ, suc, _+_, _-_, _/_, _≤_, _<_}
+use Prim.Native.Nat.{ℕ, suc, _+_, _-_, _≤_, _<_}
 use mathlib.Core.Path.{_≡_, refl, ap, _∙_, fun-ext, subst⁻¹}
 use mathlib.Core.Bool.{true, false}
 use mathlib.Core.List.{List, []}
@@ -16,7 +16,7 @@ use Rattle.kinds.specs.declared.Step.the-variants as step
 use Rattle.forms.specs.declared.Form.the-variants.{ElseMarker, EndMarker}
 use Rattle.layout.specs.Layout.{routinesOf, stepsOf, countsOf}
 use Rattle.directory.specs.Directory.{firstStep, stepCount, routineFrom, routinePart, routineSteps}
-use Rattle.kinds.specs.Steps.{stepBytes, kindAt, stepAt}
+use Rattle.kinds.specs.Steps.{stepsIn, kindAt, stepAt}
 use Rattle.blocks.specs.Blocks.{View, stands, viewAt, deepest}
 use Rattle.partners.specs.Partners.{partnerOf}
 use Rattle.book.specs.Book.{stepsPart, viewOf, isShown, shown, shownFrom}
@@ -82,7 +82,7 @@ module _ (s : List ℕ) (a : Accepted s) where
     shown-from = rw is-shown
 
     -- its bytes are those of so many steps as the directory says
-    pub routine-steps : length (routineSteps s r) / stepBytes ≡ stepCount s r
+    pub routine-steps : stepsIn (routineSteps s r) ≡ stepCount s r
     routine-steps =
         let end = directory.routine-end s (a .directed .entries) (a .directed .total) (a .laid .offsets .size) r h in
         rw (shown-length s r end) (mul-div-right (stepCount s r) (omega arith))
@@ -109,5 +109,5 @@ module _ (s : List ℕ) (a : Accepted s) where
     pub shown-partner :
         {d p q : ℕ} →
         ParsedBlock (shownAt s r) d (suc p) q → (shownAt s r q ≡ stands ElseMarker) ⊎ (shownAt s r q ≡ stands EndMarker) →
-        partnerOf (shown s r) (length (shown s r) / stepBytes - (p + 1)) 0 (p + 1) ≡ q
+        partnerOf (shown s r) (stepsIn (shown s r) - (p + 1)) 0 (p + 1) ≡ q
     shown-partner b k = rw (ap length shown-routine, routine-steps) (finds-partner (countsOf s) (shown s r) (stepCount s r) b k)

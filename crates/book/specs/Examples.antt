@@ -4,7 +4,7 @@ use mathlib.Core.Path.{_≡_, refl}
 use mathlib.Core.List.{List, [], _∷_, map}
 use lib.IntN.{pos}
 use Rattle.kinds.specs.Steps.{rowOf, decoded, stepAt}
-use Rattle.numbers.specs.Below.{sumBelow}
+use Rattle.numbers.specs.Counting.{sumBelow}
 use Rattle.verdicts.specs.declared.Verdict.{Verdict}
 use Rattle.verdicts.specs.Verdicts.{accepted, refused, firstRefusal}
 use Rattle.layout.specs.Layout.{layoutVerdict}

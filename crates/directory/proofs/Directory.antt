@@ -7,7 +7,7 @@ use native.Mathlib.Omega.{arith}
 use lib.ListN.{length, take, drop, List·getD-eq-default}
 use borrow.Author.Tests.{le-leb}
 use Rattle.numbers.specs.Numbers.{halfAt}
-use Rattle.numbers.specs.Below.{sumBelow}
+use Rattle.numbers.specs.Counting.{sumBelow}
 use Rattle.numbers.proofs.Below.{below-cut}
 use Rattle.kinds.specs.Steps.{stepBytes}
 use Rattle.layout.specs.Layout.{headerBytes, entryBytes, routinesOf, stepsOf, stepsFrom}

@@ -5,7 +5,7 @@ use mathlib.Core.List.{List}
 use lib.Dec.{leb, eqb}
 use lib.ListN.{length, drop, take}
 use Rattle.numbers.specs.Choice.{if_then_else_}
-use Rattle.numbers.specs.Below.{sumBelow}
+use Rattle.numbers.specs.Counting.{sumBelow}
 use Rattle.numbers.specs.Numbers.{halfAt}
 use Rattle.kinds.specs.declared.Step.{Step}
 use Rattle.kinds.specs.Steps.{stepBytes, stepAt}

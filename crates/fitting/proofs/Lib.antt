@@ -6,3 +6,4 @@ pub mod Marks
 pub mod Routines
 pub mod Decides
 pub mod Room
+pub mod Outcomes

@@ -12,7 +12,7 @@ use lib.Dec.{eqb}
 use lib.ListN.{length, getD, set, getD-replicate}
 use lib.Seq.{getD-set-same, getD-set-other}
 use Rattle.numbers.specs.Numbers.{byteLimit}
-use Rattle.numbers.specs.Below.{anyBelow}
+use Rattle.numbers.specs.Counting.{anyBelow}
 use Rattle.lines.specs.declared.Line.{Line}
 use Rattle.lines.specs.Lines.{mostEntries, itemAt, isIn}
 use Rattle.fitting.specs.Arrays.{firstOf, entryFits, unmarked, Marks}

@@ -11,14 +11,14 @@ use lib.Dec.{ltb, eqb}
 use lib.ListN.{getD}
 use lib.IntN.{ℤ, pos}
 use Rattle.numbers.specs.Choice.{if_then_else_}
-use Rattle.numbers.specs.Below.{allBelow}
 use Rattle.numbers.proofs.Tests.{clash, and-both, both-true, not-true-false, by-flag}
 use Rattle.numbers.proofs.Below.{all-holds, all-true, all-fails}
 use Rattle.numbers.specs.Numbers.{lowestCounter, highestCounter, isWithin}
+use Rattle.numbers.specs.Counting.{allFrom, allBelow}
 use Rattle.layout.specs.Layout.{mostCounters}
 use Rattle.lines.specs.declared.Line.{Line}
 use Rattle.lines.specs.Lines.{mostEntries, itemAt}
-use Rattle.fitting.specs.Arrays.{allFrom, entryFits, lineFits, countersFit}
+use Rattle.fitting.specs.Arrays.{entryFits, lineFits, countersFit}
 
 all-same : (f g : ℕ → Bool) (n : ℕ) → ((i : ℕ) → i < n → f i ≡ g i) → allBelow n f ≡ allBelow n g
 unfolding allBelow

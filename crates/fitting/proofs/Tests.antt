@@ -8,7 +8,7 @@ use lib.Dec.{ltb, leb, eqb}
 use borrow.Author.Tests.{ltb-true, ltb-false, lt-ltb, le-ltb, leb-true, le-leb, eqb-true, eq-eqb, not-true}
 use Rattle.numbers.specs.Choice.{if_then_else_}
 use Rattle.numbers.proofs.Tests.{clash, and-both, both-true, not-true-false}
-use Rattle.numbers.specs.Below.{allBelow, anyBelow}
+use Rattle.numbers.specs.Counting.{allBelow, anyBelow}
 use Rattle.numbers.proofs.Below.{all-holds, all-true, any-holds, any-found}
 
 pub less : (a b : ℕ) → (ltb a b ≡ true) ↔ (a < b)

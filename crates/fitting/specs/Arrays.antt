@@ -11,7 +11,7 @@ use Rattle.numbers.specs.Choice.{if_then_else_}
 use Rattle.numbers.specs.Numbers.{byteLimit, lowestCounter, highestCounter, isWithin}
 use Rattle.layout.specs.Layout.{mostSignals, mostCounters}
 use Rattle.lines.specs.declared.Line.{Line}
-use Rattle.numbers.specs.Below.{allBelow}
+use Rattle.numbers.specs.Counting.{allBelow}
 use Rattle.lines.specs.Lines.{mostEntries, itemAt, isIn}
 
 -- the entries of a list before entry i
@@ -40,10 +40,6 @@ signalFits flag signals e = ltb e signals || not flag
 
 unfoldable pub signalsFit : List Bool → ℕ → Bool
 signalsFit flags signals = allBelow mostSignals (λ e. signalFits (getD flags e false) signals e)
-
--- a test at each number from m to before n, as a loop that begins at m
-unfoldable pub allFrom : ℕ → ℕ → (ℕ → Bool) → Bool
-allFrom m n test = allBelow n (λ i. ltb i m || test i)
 
 -- a flag for each number that an entry of a list can be, none of them set
 abbrev pub unmarked : List Bool

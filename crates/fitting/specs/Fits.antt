@@ -8,10 +8,12 @@ use lib.IntN.{pos}
 use Rattle.numbers.specs.Numbers.{CounterInRange}
 use Rattle.kinds.specs.declared.Step.{Step}
 use Rattle.forms.specs.Timed.{MayBeLeft}
+use Rattle.verdicts.specs.Verdicts.{accepted}
 use Rattle.layout.specs.Layout.{mostRoutines, mostSignals, mostCounters, routinesOf, signalsOf, countersOf, countsOf}
 use Rattle.directory.specs.Directory.{stepCount, routineStep}
 use Rattle.lines.specs.declared.Line.{Line}
 use Rattle.game.specs.declared.Game.{Game}
+use Rattle.game.specs.declared.Outcome.{Outcome}
 use Rattle.lines.specs.Lines.{mostEntries, itemAt}
 use Rattle.game.specs.Game.{notStarted, continuing, rested, stopped, blank, routineAt, counterAt, isBroadcast, Sized}
 
@@ -56,3 +58,7 @@ pub record Fits (s : List ℕ) (g : Game) : Type 0 where
   pub leftElsewhere : (r : ℕ) → r < routinesOf s → routineAt g r .begun ≡ false → routineAt g r .left ≡ 0
   -- the arrays are as long as their types say, as in every game that a program holds
   pub sized : Sized g
+
+-- where nothing is turned down, the game of an answer fits the book
+abbrev pub GivesFitting : List ℕ → Outcome → Type 0
+GivesFitting s o = o .verdict ≡ accepted → Fits s (o .game)

@@ -1,14 +1,16 @@
--- Whether a game fits a book, as a test of each of its slots in turn. Where the book's counts are in range, it decides Fits. The lengths of
--- the arrays are fixed by types, and nothing has to be done to test them.
+-- Whether a game fits a book, as a test of each of its slots in turn, and refusal 9. Where the book's counts are in range, it decides Fits.
+-- The lengths of the arrays are fixed by types, and nothing has to be done to test them.
 use Prim.Native.Nat.{ℕ}
 use mathlib.Core.Bool.{Bool, _&&_}
 use mathlib.Core.List.{List}
 use lib.Dec.{eqb}
 use lib.ListN.{length}
 use Rattle.kinds.specs.declared.Counts.{Counts}
+use Rattle.verdicts.specs.declared.Verdict.{Verdict}
+use Rattle.verdicts.specs.Verdicts.{refused, unless}
 use Rattle.layout.specs.Layout.{mostRoutines, mostSignals, mostCounters, countsOf}
 use Rattle.game.specs.declared.Game.{Game}
-use Rattle.numbers.specs.Below.{allBelow}
+use Rattle.numbers.specs.Counting.{allBelow}
 use Rattle.lines.specs.Lines.{mostEntries}
 use Rattle.fitting.specs.Arrays.{lineFits, countersFit, signalsFit}
 use Rattle.fitting.specs.Routines.{slotFits}
@@ -37,3 +39,7 @@ fitsBook s g =
     && signalsFit (g .broadcast) (counts .signals)
     && allBelow mostRoutines (slotFits s g)
     && isSized g
+
+-- 9. "The game doesn't fit the book."
+abbrev pub fitVerdict : List ℕ → Game → Verdict
+fitVerdict s g = unless (fitsBook s g) (refused 9 0)

@@ -15,8 +15,8 @@ ghost use lib.ListN.{getD};
 ghost use Rattle.layout.specs.Layout.{mostCounters};
 ghost use Rattle.lines.specs.Lines.{mostEntries, itemAt};
 ghost use Rattle.numbers.specs.Numbers.{isWithin};
-ghost use Rattle.numbers.specs.Below.{allBelow};
-ghost use Rattle.fitting.specs.Arrays.{unmarked, Marks, allFrom, entryFits, lineFits, countersFit, signalsFit};
+ghost use Rattle.numbers.specs.Counting.{allFrom, allBelow};
+ghost use Rattle.fitting.specs.Arrays.{unmarked, Marks, entryFits, lineFits, countersFit, signalsFit};
 
 // How many numbers an entry of a list, which is a byte, can be.
 pub const BYTE_LIMIT: usize = 256;

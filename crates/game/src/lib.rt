@@ -7,6 +7,7 @@ use lines::Line;
 use lines::MOST_ENTRIES;
 use lines::is_in;
 use lines::push;
+use verdicts::Verdict;
 ghost use mathlib.Core.Path.{_≡_};
 ghost use Rattle.game.specs.Game.{blank, blankGame, withStop, withSuspend, withResume, withStart};
 
@@ -21,13 +22,19 @@ pub const ENDED: u8 = 3;
 
 pub const STOPPED: u8 = 4;
 
-// What is kept of a routine (the paper's thread). The last three flags say whether it is in the sets to stop, suspend and resume.
+// What is kept of a routine (the paper's thread): "stage (0 not started, 1 continuing, 2 rested, 3 ended, 4 stopped), suspended or not,
+// place (0 to its step count), begun or not, and the count left". The last three flags say whether it is in the sets to stop, suspend and
+// resume.
 #[repr(C)]
 pub struct Routine {
     pub stage: u8,
+    // "Places are counted from the routine's own first step." It is the step that the routine goes on with; "An ended routine's place is
+    // its step count."
     pub place: u16,
+    // The count left of a timed step that is begun, "from 0 to n − 1; otherwise it is 0".
     pub left: u32,
     pub suspended: bool,
+    // "Begun is set when op 7, 9 or 11 pauses, and cleared when that step is past."
     pub begun: bool,
     pub stopping: bool,
     pub suspending: bool,
@@ -44,6 +51,13 @@ pub struct Game {
     pub listed: Line,
     pub starting: Line,
     pub broadcast: [bool; MOST_SIGNALS],
+}
+
+// What set-up and an order answer: the verdict, and the game, which is as lent after a refusal.
+#[repr(C)]
+pub struct Outcome {
+    pub verdict: Verdict,
+    pub game: Game,
 }
 
 // A routine whose fields are all 0.

@@ -5,7 +5,7 @@ use mathlib.Core.List.{List, [], _∷_}
 use lib.Dec.{eqb, ltb, leb}
 use lib.ListN.{length, getD, set}
 use Rattle.numbers.specs.Choice.{if_then_else_}
-use Rattle.numbers.specs.Below.{allBelow}
+use Rattle.numbers.specs.Counting.{allBelow}
 use Rattle.words.specs.Words.{isSame}
 use Rattle.digits.specs.Digits.{minus, digitOf}
 use Rattle.hex.specs.declared.Bytes.{Bytes}

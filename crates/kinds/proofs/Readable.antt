@@ -1,6 +1,6 @@
 -- A step is taken apart into the kind of its op and fields if the fields are within its limits, and is turned down otherwise.
 -- By the tests that the decoding makes, each read as the order that it tests; the table's rows are not looked at.
-use Prim.Native.Nat.{ℕ, _/_, _<_, _≤_}
+use Prim.Native.Nat.{ℕ, _<_, _≤_}
 use mathlib.Core.Path.{_≡_, refl, _∙_, sym}
 use mathlib.Core.Bool.{Bool, true, false, _&&_}
 use mathlib.Core.List.{List}
@@ -8,7 +8,6 @@ use native.Mathlib.Omega.{arith}
 use native.Mathlib.Decide.{decLt}
 use borrow.Author.Tests.{lt-ltb, le-ltb}
 use lib.Dec.{T, ltb, lt→ltb, ltb→lt}
-use lib.ListN.{length}
 use lib.IntN.{ℤ}
 use lib.Signed.{leZ}
 use mir.Facts.{and-yes, yes-and}
@@ -17,7 +16,7 @@ use Rattle.numbers.specs.Numbers.{isWithin}
 use Rattle.kinds.specs.declared.Kind.{Kind}
 use Rattle.kinds.specs.declared.Step.the-variants as step
 use Rattle.kinds.specs.declared.Counts.{Counts}
-use Rattle.kinds.specs.Steps.{stepBytes, Row, rowOf, kindOf, Readable, decoded, opAt, fieldA, fieldB, fieldN, kindAt, stepAt}
+use Rattle.kinds.specs.Steps.{stepsIn, Row, rowOf, kindOf, Readable, decoded, opAt, fieldA, fieldB, fieldN, kindAt, stepAt}
 
 pub kind-not-refused : {k : Kind} → step.Kind k ≡ step.Refused → ⊥
 kind-not-refused h = let z : _≡_ {A = ℕ} 0 1 = cc in omega arith
@@ -71,23 +70,23 @@ abbrev pub ReadableAt : Counts → List ℕ → ℕ → Type 0
 ReadableAt counts s i = Readable counts (opAt s i) (fieldA s i) (fieldB s i) (fieldN s i)
 
 module _ (counts : Counts) (s : List ℕ) (i : ℕ) where
-  pub step-there : i < length s / stepBytes → stepAt counts s i ≡ decoded counts (opAt s i) (fieldA s i) (fieldB s i) (fieldN s i)
+  pub step-there : i < stepsIn s → stepAt counts s i ≡ decoded counts (opAt s i) (fieldA s i) (fieldB s i) (fieldN s i)
   unfolding stepAt
-  step-there h = rw (lt-ltb i (length s / stepBytes) h)
+  step-there h = rw (lt-ltb i (stepsIn s) h)
 
-  pub step-missing : length s / stepBytes ≤ i → stepAt counts s i ≡ step.Refused
+  pub step-missing : stepsIn s ≤ i → stepAt counts s i ≡ step.Refused
   unfolding stepAt
-  step-missing h = rw (le-ltb i (length s / stepBytes) h)
+  step-missing h = rw (le-ltb i (stepsIn s) h)
 
   -- a step that is not there is none of the kinds
-  pub step-below : {k : Kind} → stepAt counts s i ≡ step.Kind k → i < length s / stepBytes
+  pub step-below : {k : Kind} → stepAt counts s i ≡ step.Kind k → i < stepsIn s
   step-below e =
-      elim (decLt i (length s / stepBytes)) [
+      elim (decLt i (stepsIn s)) [
         | yes h ↦ h
         | no n ↦ absurd (kind-not-refused (sym e ∙ step-missing (omega arith)))
       ]
 
-  pub readable-step : i < length s / stepBytes → ReadableAt counts s i → stepAt counts s i ≡ step.Kind (kindAt s i)
+  pub readable-step : i < stepsIn s → ReadableAt counts s i → stepAt counts s i ≡ step.Kind (kindAt s i)
   unfolding kindAt
   readable-step h r = step-there h ∙ readable-kind counts (opAt s i) (fieldA s i) (fieldB s i) (fieldN s i) r
 

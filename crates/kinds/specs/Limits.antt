@@ -1,10 +1,10 @@
 -- The limits of a book's fields as lists of numbers, and steps that are held against such lists: what the code decodes with.
 -- With the limits of a book's counts the steps are those of the table (`step-within`, crates/kinds/proofs/Limits.antt).
-use Prim.Native.Nat.{ℕ, _/_}
+use Prim.Native.Nat.{ℕ}
 use mathlib.Core.Bool.{_&&_}
 use mathlib.Core.List.{List, [], _∷_, map}
 use lib.Dec.{ltb}
-use lib.ListN.{getD, length}
+use lib.ListN.{getD}
 use lib.IntN.{ℤ, pos}
 use lib.Signed.{ltZ}
 use Rattle.numbers.specs.Choice.{if_then_else_}
@@ -12,7 +12,7 @@ use Rattle.numbers.specs.Numbers.{isWithin}
 use Rattle.kinds.specs.declared.Step.{Step}
 use Rattle.kinds.specs.declared.Step.the-variants as step
 use Rattle.kinds.specs.declared.Counts.{Counts}
-use Rattle.kinds.specs.Steps.{table, kindOf, stepBytes, opAt, fieldA, fieldB, fieldN}
+use Rattle.kinds.specs.Steps.{table, kindOf, stepsIn, opAt, fieldA, fieldB, fieldN}
 
 -- how many rows the table has
 abbrev pub ops : ℕ
@@ -41,4 +41,4 @@ decodedWithin limits op a b n =
 -- step i of a part of the book, held against limits; turned down where its bytes are not there
 unfoldable pub stepWithin : List (List (List ℤ)) → List ℕ → ℕ → Step
 stepWithin limits s i =
-    if ltb i (length s / stepBytes) then decodedWithin limits (opAt s i) (fieldA s i) (fieldB s i) (fieldN s i) else step.Refused
+    if ltb i (stepsIn s) then decodedWithin limits (opAt s i) (fieldA s i) (fieldB s i) (fieldN s i) else step.Refused

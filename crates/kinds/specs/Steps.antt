@@ -116,6 +116,10 @@ decoded counts op a b n =
 abbrev pub stepBytes : ℕ
 stepBytes = 8
 
+-- how many steps these bytes are
+abbrev pub stepsIn : List ℕ → ℕ
+stepsIn steps = length steps / stepBytes
+
 -- "steps of 8 bytes: op (8 bits), a (8 bits), b (16 bits), n (32 bits, two's complement)"
 abbrev pub opAt : List ℕ → ℕ → ℕ
 opAt s i = getD s (i * stepBytes) 0
@@ -140,4 +144,4 @@ kindAt s i = kindOf (opAt s i) (fieldA s i) (fieldB s i) (fieldN s i)
 -- step i of a part of the book; turned down where its bytes are not there
 unfoldable pub stepAt : Counts → List ℕ → ℕ → Step
 stepAt counts s i =
-    if ltb i (length s / stepBytes) then decoded counts (opAt s i) (fieldA s i) (fieldB s i) (fieldN s i) else step.Refused
+    if ltb i (stepsIn s) then decoded counts (opAt s i) (fieldA s i) (fieldB s i) (fieldN s i) else step.Refused

@@ -2,9 +2,8 @@
 use numbers::HIGHEST;
 use numbers::LOWEST;
 ghost use mathlib.Core.Path.{_≡_};
-ghost use Prim.Native.Nat.{_/_, _<_};
-ghost use lib.ListN.{length};
-ghost use Rattle.kinds.specs.Steps.{kindOf, stepBytes, fieldsAt, kindAt};
+ghost use Prim.Native.Nat.{_<_};
+ghost use Rattle.kinds.specs.Steps.{kindOf, stepsIn, fieldsAt, kindAt};
 ghost use Rattle.kinds.specs.Limits.{fieldLimits, numberLimits, limitsOf, decodedWithin, stepWithin};
 
 // The 21 kinds. Indexes, relations and counts are ready to use: a count of 0 or less is 0.
@@ -197,7 +196,7 @@ pub fn decode(limits: &Limits, op: u8, a: u8, b: u16, n: i32) -> Step
 
 // The fields of the step at a place whose eight bytes are there.
 fn fields_at(steps: &[u8], at: usize) -> Fields
-    requires { ⌜ at < length (now steps) / stepBytes ⌝ }
+    requires { ⌜ at < stepsIn (now steps) ⌝ }
     ensures { λ r. ⌜ r ≡ fieldsAt (now (steps .entry)) at ⌝ }
 {
     let i = at * STEP_BYTES;
@@ -211,7 +210,7 @@ fn fields_at(steps: &[u8], at: usize) -> Fields
 // The kind of the step at a place whose eight bytes are there, without the test of its fields. It serves the code that plays, whose steps
 // are those of an accepted book.
 pub fn kind_at(steps: &[u8], at: usize) -> Kind
-    requires { ⌜ at < length (now steps) / stepBytes ⌝ }
+    requires { ⌜ at < stepsIn (now steps) ⌝ }
     ensures { λ r. ⌜ r ≡ kindAt (now (steps .entry)) at ⌝ }
 {
     let fields = fields_at(steps, at);

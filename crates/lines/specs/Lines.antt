@@ -6,7 +6,7 @@ use lib.Dec.{ltb, eqb}
 use lib.ListN.{getD, set, take, replicate}
 use Rattle.numbers.specs.Choice.{if_then_else_}
 use Rattle.lines.specs.declared.Line.{Line}
-use Rattle.numbers.specs.Below.{anyBelow}
+use Rattle.numbers.specs.Counting.{anyBelow}
 
 -- how many entries a list has room for
 abbrev pub mostEntries : ℕ

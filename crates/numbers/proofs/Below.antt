@@ -12,7 +12,7 @@ use borrow.Author.Tests.{eq-eqb, ne-eqb}
 use lib.Dec.{eqb}
 use Rattle.numbers.specs.Choice.{if_then_else_}
 use Rattle.numbers.proofs.Tests.{clash, and-both, both-true, by-flag}
-use Rattle.numbers.specs.Below.{allBelow, anyBelow, sumBelow}
+use Rattle.numbers.specs.Counting.{allBelow, anyBelow, sumBelow}
 
 module _ (test : ℕ → Bool) where
   pub all-holds : (n : ℕ) → allBelow n test ≡ true → (i : ℕ) → i < n → test i ≡ true

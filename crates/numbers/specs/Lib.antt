@@ -1,4 +1,4 @@
-pub mod Below
+pub mod Counting
 pub mod Choice
 pub mod Numbers
 pub mod Relations

@@ -12,6 +12,7 @@ use lib.Dec.{lit≤, eqb}
 use lib.IntN.{ℤ}
 use lib.ListN.{length, getD, length-map, List·getD-eq-default, List·getD-map}
 use lib.Seq.{ext-getD}
+use Rattle.numbers.specs.Counting.{Among}
 use Rattle.numbers.proofs.Tests.{by-flag, clash}
 use Rattle.layout.specs.Layout.{mostRoutines, mostSignals, routinesOf}
 use Rattle.kinds.specs.declared.Counts.{Counts}
@@ -23,7 +24,6 @@ use Rattle.game.specs.declared.Game.{Game}
 use Rattle.game.specs.Game.{continuing, rested, ended, stopped, blank, routineAt}
 use Rattle.fitting.specs.Fits.{Fits}
 use Rattle.orders.proofs.Stores.{same-at}
-use Rattle.round.specs.Counting.{Among}
 use Rattle.round.specs.Actions.{positionOf, placed, inStage1, inStage4, withoutOrders, atStart}
 use Rattle.round.proofs.Among.{among-or, among-kept}
 use Rattle.round.proofs.Actions.{each-keeps, each-length, each-other, each-given}

@@ -11,13 +11,13 @@ use lib.Dec.{eqb}
 use lib.ListN.{length, getD, set, length-set}
 use lib.Seq.{getD-set-same, getD-set-other, set-out}
 use Rattle.numbers.specs.Choice.{if_then_else_}
+use Rattle.numbers.specs.Counting.{Among}
 use Rattle.numbers.proofs.Tests.{by-test, by-flag}
 use Rattle.layout.specs.Layout.{mostRoutines}
 use Rattle.lines.specs.declared.Line.{Line}
 use Rattle.lines.specs.Lines.{pushed, appended}
 use Rattle.game.specs.declared.Routine.{Routine}
 use Rattle.game.specs.Game.{continuing, rested, ended, blank}
-use Rattle.round.specs.Counting.{Among}
 use Rattle.round.specs.Actions.{kept, each, inStage1}
 use Rattle.round.proofs.Among.{among-or}
 use Rattle.tables.specs.Tables.{fieldCount, endsRow, stagesRow, rowAt, putIn}

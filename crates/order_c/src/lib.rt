@@ -1,8 +1,8 @@
 // The call with which the benches give a game an order.
 use game::Game;
-use setup::Outcome;
+use game::Outcome;
 ghost use mathlib.Core.Path.{_≡_};
-ghost use Rattle.setup.specs.SetUp.{GivesFitting};
+ghost use Rattle.fitting.specs.Fits.{GivesFitting};
 ghost use Rattle.orders.specs.Orders.{ordered};
 
 // Gives a game an order: the contract is that of `ordering::order`.

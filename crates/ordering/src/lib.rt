@@ -1,6 +1,7 @@
 // Giving a game an outside order. Document 01, "The game".
 use fitting::fits;
 use game::Game;
+use game::Outcome;
 use game::with_resume;
 use game::with_start;
 use game::with_stop;
@@ -8,13 +9,12 @@ use game::with_suspend;
 use kinds::Counts;
 use layout::counts_of;
 use reading::read_book;
-use setup::Outcome;
 use verdicts::UNFIT;
 use verdicts::Verdict;
 use verdicts::told;
 use verdicts::verdict_of;
 ghost use mathlib.Core.Path.{_≡_};
-ghost use Rattle.setup.specs.SetUp.{GivesFitting};
+ghost use Rattle.fitting.specs.Fits.{GivesFitting};
 ghost use Rattle.orders.specs.Orders.{orderCount, orderVerdict, ordered};
 
 // The kinds of an order.

@@ -10,12 +10,12 @@ use Rattle.game.specs.declared.Routine.{Routine}
 use Rattle.game.specs.declared.Game.{Game}
 use Rattle.game.specs.Game.{notStarted, blank, routineAt, withStarting, withRoutine}
 use Rattle.lines.specs.Lines.{isIn}
+use Rattle.game.proofs.Outcomes.{game-either}
 use Rattle.fitting.specs.Fits.{In, Fits}
 use Rattle.fitting.proofs.Lists.{is-in}
 use Rattle.orders.specs.Orders.{orderVerdict, obeyed, ordered}
 use Rattle.orders.specs.Joined.{Joined, OnlyAdds}
 use Rattle.orders.proofs.Stores.{entry-set}
-use Rattle.setup.proofs.Answers.{game-either}
 use Rattle.orders.proofs.Starts.{nothing-added, start-nothing, start-adds}
 use Rattle.orders.proofs.Telling.{told-right, order-tells}
 

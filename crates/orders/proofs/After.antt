@@ -7,13 +7,13 @@ use native.Mathlib.Decide.{ℕ-discrete}
 use borrow.Author.Tests.{eq-eqb}
 use Rattle.verdicts.specs.Verdicts.{accepted}
 use Rattle.game.specs.declared.Game.{Game}
+use Rattle.game.specs.declared.Outcome.{Outcome}
+use Rattle.game.proofs.Outcomes.{game-lent}
 use Rattle.fitting.specs.Fitting.{fitsBook}
 use Rattle.fitting.proofs.Decides.{fits-decides}
-use Rattle.setup.specs.declared.Outcome.{Outcome}
-use Rattle.setup.specs.SetUp.{GivesFitting}
 use Rattle.orders.specs.Orders.{orderVerdict, obeyed, ordered}
 use Rattle.orders.specs.Tells.{OrderTells}
-use Rattle.setup.proofs.Answers.{game-lent}
+use Rattle.fitting.specs.Fits.{GivesFitting}
 use Rattle.orders.proofs.Obeyed.{obeyed-fits, obeyed-again}
 use Rattle.orders.proofs.Telling.{Right, told-right, order-told-only, order-tells}
 

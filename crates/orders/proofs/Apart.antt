@@ -8,9 +8,9 @@ use lib.Seq.{map-set-same}
 use Rattle.game.specs.declared.Routine.{Routine}
 use Rattle.game.specs.declared.Game.{Game}
 use Rattle.game.specs.Game.{blank, routineAt, withRoutines}
+use Rattle.game.proofs.Outcomes.{game-either}
 use Rattle.orders.specs.Orders.{orderVerdict, obeyed, ordered}
 use Rattle.orders.specs.Without.{without}
-use Rattle.setup.proofs.Answers.{game-either}
 
 routine-apart :
     (g : Game) (n : ℕ) (f : Routine → Routine) (y : Routine) → f y ≡ f (routineAt g n) →

@@ -16,10 +16,10 @@ use Rattle.book.specs.Tells.{Tells}
 use Rattle.verdicts.proofs.First.{orElse-told}
 use Rattle.book.proofs.Telling.{tells, told-only, number-accepted}
 use Rattle.game.specs.declared.Game.{Game}
-use Rattle.fitting.specs.Fitting.{fitsBook}
+use Rattle.fitting.specs.Fitting.{fitsBook, fitVerdict}
 use Rattle.fitting.specs.Fits.{Fits}
 use Rattle.fitting.proofs.Decides.{fits-decides}
-use Rattle.orders.specs.Orders.{orderCount, fitVerdict, orderVerdict}
+use Rattle.orders.specs.Orders.{orderCount, orderVerdict}
 use Rattle.orders.specs.Tells.{OrderTells}
 
 -- what an order and a round check first: "1 to 7, then 9"

@@ -14,7 +14,7 @@ use Rattle.book.specs.Book.{stepsVerdict, routineWalk, nestingVerdict, pausingV
 use Rattle.book.specs.Examples.{t3}
 use Rattle.game.specs.declared.Routine.{Routine}
 use Rattle.game.specs.declared.Game.{Game}
-use Rattle.numbers.specs.Below.{allBelow, anyBelow, sumBelow}
+use Rattle.numbers.specs.Counting.{allBelow, anyBelow, sumBelow}
 use Rattle.lines.specs.Lines.{isIn}
 use Rattle.game.specs.Game.{continuing, ended, withRoutine, withStart}
 use Rattle.fitting.specs.Arrays.{entryFits, lineFits, countersFit, signalsFit}

@@ -11,9 +11,9 @@ use Rattle.layout.specs.Layout.{countsOf}
 use Rattle.book.specs.Book.{bookVerdict}
 use Rattle.game.specs.declared.Game.{Game}
 use Rattle.game.specs.Game.{routineAt, withStop, withSuspend, withResume, withStart, withStarting, withBroadcast, withRoutine}
-use Rattle.fitting.specs.Fitting.{fitsBook}
-use Rattle.setup.specs.declared.Outcome.{Outcome}
-use Rattle.setup.specs.SetUp.{unlessRefused}
+use Rattle.fitting.specs.Fitting.{fitVerdict}
+use Rattle.game.specs.declared.Outcome.{Outcome}
+use Rattle.game.specs.Outcomes.{unlessRefused}
 
 -- how many numbers an order of each kind may name: signals for kind 0, routines for 1 to 4; an unknown kind has none
 abbrev pub orderCount : Counts → ℕ → ℕ
@@ -21,10 +21,6 @@ orderCount counts kind =
     let E = counts .signals in
     let R = counts .routines in
     getD (E ∷ R ∷ R ∷ R ∷ R ∷ []) kind 0
-
--- 9. "The game doesn't fit the book."
-abbrev pub fitVerdict : List ℕ → Game → Verdict
-fitVerdict s g = unless (fitsBook s g) (refused 9 0)
 
 -- 8. "An order of unknown kind, or a number not below its count."
 abbrev pub numberVerdict : List ℕ → ℕ → ℕ → Verdict

@@ -1,9 +1,8 @@
 // Where the partner of an opening step is.
 use kinds::STEP_BYTES;
 ghost use mathlib.Core.Path.{_≡_};
-ghost use Prim.Native.Nat.{_-_, _/_};
-ghost use lib.ListN.{length};
-ghost use Rattle.kinds.specs.Steps.{stepBytes};
+ghost use Prim.Native.Nat.{_-_};
+ghost use Rattle.kinds.specs.Steps.{stepsIn};
 ghost use Rattle.partners.specs.Partners.{partnerOf};
 
 // The ops of the steps that hold blocks, and of their markers.
@@ -18,7 +17,7 @@ pub const OP_END: u8 = 20;
 // The place of the first marker from `first` on that stands in no inner pair: the partner of an opening step,
 // or of an else, just before `first`. Where there is none, the count of steps, or `first` if that lies behind them.
 pub fn partner(steps: &[u8], first: usize) -> usize
-    ensures { λ r. ⌜ r ≡ partnerOf (now (steps .entry)) (length (now (steps .entry)) / stepBytes - first) 0 first ⌝ }
+    ensures { λ r. ⌜ r ≡ partnerOf (now (steps .entry)) (stepsIn (now (steps .entry)) - first) 0 first ⌝ }
 {
     let count = steps.len() / STEP_BYTES;
     let mut at = first;

@@ -5,7 +5,7 @@ ghost use mathlib.Core.Path.{_≡_};
 ghost use Rattle.verdicts.specs.Verdicts.{accepted};
 ghost use Rattle.fitting.specs.Fits.{Fits};
 ghost use Rattle.round.specs.Answers.{answer};
-ghost use Rattle.round.specs.Demand.{Demand3};
+ghost use Rattle.round.specs.claims.Demand.{Demand3};
 ghost use Rattle.playing.specs.Playing.{answered, GivenByRules};
 
 // Plays a round: the contract is that of `playing::play`.

@@ -17,7 +17,7 @@ use Rattle.book.specs.Accepted.{Accepted}
 use Rattle.game.specs.declared.Game.{Game}
 use Rattle.round.specs.Rounds.{historyOf}
 use Rattle.round.specs.Answers.{marksIn, numbersPerMark, spaceFor, roundVerdict, answer}
-use Rattle.round.specs.Tells.{RoundTells}
+use Rattle.round.specs.claims.Tells.{RoundTells}
 use Rattle.round.proofs.Counting.{count-all}
 use Rattle.round.proofs.Once.{completed-once}
 use Rattle.round.proofs.Telling.{round-tells, turned-down, played-out}

@@ -1,7 +1,7 @@
 -- Document 01's own example of what `rounds` prints, and the line of a refused book, by evaluation.
 use mathlib.Core.Path.{_≡_, refl}
 use mathlib.Core.List.{[]}
-use Rattle.numbers.specs.Below.{allBelow, anyBelow, sumBelow}
+use Rattle.numbers.specs.Counting.{allBelow, anyBelow, sumBelow}
 use Rattle.kinds.specs.Steps.{rowOf, decoded, stepAt}
 use Rattle.blocks.specs.Blocks.{viewAt, blockBy, stepOf, routineOf}
 use Rattle.partners.specs.Partners.{partnerOf}

@@ -19,8 +19,8 @@ use Rattle.fitting.specs.Fits.{Fits}
 use Rattle.fitting.proofs.Decides.{fits-decides}
 use Rattle.round.specs.Rounds.{round}
 use Rattle.round.specs.Answers.{Answer, spaceFor, roundVerdict, turnedDown, playedOut, answer}
-use Rattle.round.specs.Tells.{RoundTells}
-use Rattle.round.specs.Demand.{Demand3}
+use Rattle.round.specs.claims.Tells.{RoundTells}
+use Rattle.round.specs.claims.Demand.{Demand3}
 use Rattle.round.proofs.Telling.{round-told-only, turned-down, played-out, answer-verdict, accepted-played}
 use Rattle.round.proofs.Demand.{round-accepted, answer-demand-3}
 use Rattle.round.proofs.After.{answer-fits}

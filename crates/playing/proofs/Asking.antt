@@ -7,6 +7,7 @@ use mathlib.Core.Bool.{false, not}
 use mathlib.Core.List.{List, [], _∷_}
 use native.Mathlib.Omega.{arith}
 use Rattle.numbers.specs.Numbers.{wordLimit}
+use Rattle.numbers.specs.Counting.{All}
 use Rattle.numbers.proofs.Tests.{by-flag, clash}
 use Rattle.kinds.specs.declared.Kind.{Kind}
 use Rattle.kinds.specs.declared.Step.{Step}
@@ -25,8 +26,7 @@ use Rattle.round.specs.declared.Position.{Position}
 use Rattle.round.specs.State.{State}
 use Rattle.round.specs.Actions.{positionOf}
 use Rattle.round.specs.Rounds.{withEnd, afterTurn, allDone, again, ticksOf, turn, pass, instant}
-use Rattle.round.proofs.Among.{All}
-use Rattle.round.proofs.Sound.{Sound}
+use Rattle.round.specs.claims.Sound.{Sound}
 use Rattle.round.proofs.Coming.{turn-untouched}
 use Rattle.round.proofs.AfterTurn.{end-keeps, turn-taken, position-after}
 use Rattle.round.proofs.TurnSound.{turn-sound, again-sound}

@@ -35,7 +35,7 @@ ghost use Rattle.book.specs.Accepted.{Accepted};
 ghost use Rattle.fitting.specs.Fits.{Fits};
 ghost use Rattle.round.specs.Rounds as rounds;
 ghost use Rattle.round.specs.Answers as answers;
-ghost use Rattle.round.specs.Demand.{Demand3};
+ghost use Rattle.round.specs.claims.Demand.{Demand3};
 ghost use Rattle.game.specs.declared.Game.{Game};
 ghost use Rattle.opening.specs.Games.{noTally, Opened};
 ghost use Rattle.playing.specs.Playing.{Done, answered, GivenByRules};

@@ -15,7 +15,7 @@ use Rattle.directory.specs.Directory.{stepsBefore, directoryVerdict, routinePar
 use Rattle.book.specs.Book.{stepsVerdict, routineWalk, nestingVerdict, pausingVerdict, bookVerdict}
 use Rattle.book.specs.Examples as document
 use Rattle.game.specs.declared.Game.{Game}
-use Rattle.numbers.specs.Below.{allBelow, anyBelow, sumBelow}
+use Rattle.numbers.specs.Counting.{allBelow, anyBelow, sumBelow}
 use Rattle.lines.specs.Lines.{empty, isIn, pushed, entriesOf, appended}
 use Rattle.game.specs.Game.{rested, stopped, blank, blankGame, withStart}
 use Rattle.fitting.specs.Arrays.{entryFits, lineFits, countersFit, signalsFit}

@@ -9,6 +9,7 @@ use native.Mathlib.Omega.{arith}
 use borrow.Author.Tests.{lt-ltb, le-ltb}
 use lib.IntN.{ℤ}
 use Rattle.kinds.specs.Limits.{stepWithin}
+use Rattle.kinds.specs.Steps.{stepsIn}
 use Rattle.blocks.specs.declared.Fault.the-variants as fault
 use Rattle.blocks.specs.declared.Walk.{Walk}
 use Rattle.blocks.specs.declared.Walk.the-variants as walk
@@ -16,7 +17,7 @@ use Rattle.blocks.specs.Blocks.{beyond, deepest, stepOf, blockOf, routineOf}
 use Rattle.blocks.proofs.Views.{seen-stands}
 use Rattle.reading.specs.declared.readers.Found.{Found}
 use Rattle.reading.specs.declared.readers.Found.the-variants.{Past, AtElse, AtEnd, Unreadable, Misnested}
-use Rattle.reading.specs.Found.{stepsIn, viewBy, walkOf, Stopped, lowered}
+use Rattle.reading.specs.Found.{viewBy, walkOf, Stopped, lowered}
 use Rattle.reading.proofs.Views.{view-seen, stands-below}
 use Rattle.reading.proofs.Lowered.{block-lowered}
 

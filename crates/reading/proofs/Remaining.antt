@@ -11,6 +11,7 @@ use denote.Enum.Declared.{tagOf}
 use lib.IntN.{ℤ}
 use Rattle.kinds.specs.Limits.{stepWithin}
 use Rattle.kinds.specs.declared.Step.the-variants as step
+use Rattle.kinds.specs.Steps.{stepsIn}
 use Rattle.forms.specs.declared.Form.{Form}
 use Rattle.forms.specs.declared.Form.the-variants.{Plain, Pausing, IfOpening, ElseMarker, WhileOpening, EndMarker}
 use Rattle.forms.specs.Forms.{isElse, isEnd}
@@ -21,7 +22,7 @@ use Rattle.blocks.specs.declared.Walk.the-variants as walk
 use Rattle.blocks.specs.Blocks.{View, stands, blockStep, blockBy, stepOf}
 use Rattle.reading.specs.declared.readers.Found.{Found}
 use Rattle.reading.specs.declared.readers.Found.the-variants.{Past, AtElse, AtEnd, Unreadable, Misnested}
-use Rattle.reading.specs.Found.{stepsIn, viewBy, Opens, walkOf, Stopped, unclosedOf, heldOf, lowered}
+use Rattle.reading.specs.Found.{viewBy, Opens, walkOf, Stopped, unclosedOf, heldOf, lowered}
 use Rattle.forms.proofs.Form.{the-type as form-type}
 use Rattle.reading.proofs.Views.{view-seen, view-beyond, stands-below}
 use Rattle.reading.proofs.Steps.{NoEnd}

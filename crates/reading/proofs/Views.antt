@@ -8,7 +8,7 @@ use borrow.Author.Tests.{lt-ltb, le-ltb}
 use lib.ListN.{length, take}
 use lib.Seq.{length-take-le}
 use lib.IntN.{ℤ}
-use Rattle.kinds.specs.Steps.{stepBytes}
+use Rattle.kinds.specs.Steps.{stepBytes, stepsIn}
 use Rattle.kinds.specs.Limits.{stepWithin}
 use Rattle.kinds.specs.declared.Kind.{Kind}
 use Rattle.kinds.specs.declared.Step.the-variants as step
@@ -16,7 +16,7 @@ use Rattle.forms.specs.declared.Form.{Form}
 use Rattle.forms.specs.Forms.{formOf}
 use Rattle.blocks.specs.Blocks.{beyond, stands, seen}
 use Rattle.blocks.proofs.Views.{stands-within}
-use Rattle.reading.specs.Found.{stepsIn, viewBy}
+use Rattle.reading.specs.Found.{viewBy}
 
 -- of the bytes of a part that begins with n steps, those of the n steps are n steps
 pub steps-taken : (part : List ℕ) (n : ℕ) → stepBytes * n ≤ length part → stepsIn (take (stepBytes * n) part) ≡ n

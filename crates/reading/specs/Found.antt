@@ -1,12 +1,11 @@
 -- What the readers find, and how the definitions of blocks say the same.
-use Prim.Native.Nat.{ℕ, _+_, _/_, min}
+use Prim.Native.Nat.{ℕ, _+_, min}
 use mathlib.Core.Path.{_≡_}
 use mathlib.Core.List.{List}
 use lib.Dec.{ltb}
-use lib.ListN.{length}
 use lib.IntN.{ℤ}
 use Rattle.numbers.specs.Choice.{if_then_else_}
-use Rattle.kinds.specs.Steps.{stepBytes}
+use Rattle.kinds.specs.Steps.{stepsIn}
 use Rattle.kinds.specs.Limits.{stepWithin}
 use Rattle.forms.specs.declared.Form.{Form}
 use Rattle.forms.specs.declared.Form.the-variants.{Plain, Pausing, IfOpening, ElseMarker, WhileOpening, EndMarker}
@@ -16,10 +15,6 @@ use Rattle.blocks.specs.declared.Walk.the-variants as walk
 use Rattle.blocks.specs.Blocks.{View, beyond, stands, seen, andThen}
 use Rattle.reading.specs.declared.readers.Found.{Found}
 use Rattle.reading.specs.declared.readers.Found.the-variants.{Past, AtElse, AtEnd, Unreadable, Misnested}
-
--- how many steps these bytes are
-abbrev pub stepsIn : List ℕ → ℕ
-stepsIn steps = length steps / stepBytes
 
 -- what stands at a place of a routine whose steps these are, held against limits
 unfoldable pub viewBy : List (List (List ℤ)) → List ℕ → ℕ → View

@@ -10,9 +10,9 @@ use kinds::step_within;
 ghost use mathlib.Core.Path.{_≡_};
 ghost use Prim.Native.Nat.{_*_, _≤_, _<_, min};
 ghost use lib.ListN.{length, take};
-ghost use Rattle.kinds.specs.Steps.{stepBytes};
+ghost use Rattle.kinds.specs.Steps.{stepBytes, stepsIn};
 ghost use Rattle.blocks.specs.Blocks.{blockOf, stepOf, routineOf};
-ghost use Rattle.reading.specs.Found.{stepsIn, viewBy, Opens, walkOf, Stopped, unclosedOf, heldOf, lowered};
+ghost use Rattle.reading.specs.Found.{viewBy, Opens, walkOf, Stopped, unclosedOf, heldOf, lowered};
 
 // How deep blocks may nest.
 const DEEPEST: usize = 16;

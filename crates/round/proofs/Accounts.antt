@@ -12,6 +12,7 @@ use lib.Dec.{eqb}
 use lib.ListN.{length}
 use Rattle.kinds.specs.Ops.{opMark}
 use Rattle.numbers.specs.Choice.{if_then_else_}
+use Rattle.numbers.specs.Counting.{howMany}
 use Rattle.numbers.proofs.Tests.{clash, neither}
 use Rattle.layout.specs.Layout.{countsOf}
 use Rattle.directory.specs.Directory.{routineSteps}
@@ -19,12 +20,11 @@ use Rattle.game.specs.declared.Game.{Game}
 use Rattle.round.specs.declared.Position.{Position}
 use Rattle.round.specs.declared.Effect.{Effect}
 use Rattle.round.specs.State.{State, Thing, Happening, gave, ended, missing, past, marked, completed}
-use Rattle.round.specs.Counting.{howMany}
 use Rattle.round.specs.Rounds.{turn, historyOf}
 use Rattle.round.specs.Answers.{marksIn}
-use Rattle.round.specs.Tells.{numbersGiven}
-use Rattle.round.specs.Demand.{isSignalOp, isSignalStep, givesSignal}
-use Rattle.round.specs.Completed.{completes, isMarkStep}
+use Rattle.round.specs.claims.Tells.{numbersGiven}
+use Rattle.round.specs.claims.Demand.{isSignalOp, isSignalStep, givesSignal}
+use Rattle.round.specs.claims.Completed.{completes, isMarkStep}
 use Rattle.round.proofs.Histories.{many-append, stops-none}
 use Rattle.round.proofs.Along.{round-always}
 use Rattle.round.proofs.Acts.{isTelling, Says, silent, marks, gives, givesNumber, finds}

@@ -8,6 +8,7 @@ use mathlib.Core.Logic.{inl, inr}
 use native.Mathlib.Omega.{arith}
 use lib.ListN.{length, getD, set, length-set, length-map}
 use lib.Seq.{getD-set-same, getD-set-other, map-set-same}
+use Rattle.numbers.specs.Counting.{Among, All}
 use Rattle.layout.specs.Layout.{routinesOf}
 use Rattle.book.specs.Accepted.{CountsInRange}
 use Rattle.game.specs.declared.Routine.{Routine}
@@ -17,9 +18,8 @@ use Rattle.game.specs.Game.{blank, routineAt}
 use Rattle.fitting.specs.Fits.{Fits}
 use Rattle.orders.proofs.Stores.{entry-set, same-at}
 use Rattle.round.specs.Actions.{kept, each, positionOf, inStage1, inStage4, getsStopped, staysListed, withoutOrders, atStart}
-use Rattle.round.proofs.Among.{All, all-kept, kept-short}
+use Rattle.round.proofs.Among.{all-kept, kept-short}
 use Rattle.round.proofs.Listing.{entries-same, joined-below, joined-short}
-use Rattle.round.specs.Counting.{Among}
 
 -- what a change of one routine keeps, the same change of several keeps
 pub each-keeps :

@@ -25,13 +25,9 @@ use Rattle.round.specs.declared.Act.the-variants.{Goes, Halts}
 use Rattle.round.specs.State.{State, Thing, Happening, gave, ended, missing, past, marked, numbersOf, isThere}
 use Rattle.round.specs.Jumps.{sizeOf}
 use Rattle.round.specs.Ticks.{Tick, countAt}
-use Rattle.round.specs.Demand.{isSignalOp, AsksFor, wait, waitFor, join, joinFor, read}
+use Rattle.round.specs.claims.Demand.{isSignalOp, AsksFor, wait, waitFor, join, joinFor, read}
 use Rattle.round.proofs.Leads.{Leaves}
-use Rattle.round.proofs.Among.{All}
-
--- each number given is in range, whatever signal it was given with
-abbrev pub NumbersRight : List (ℕ × ℤ) → Type 0
-NumbersRight = All (λ x. CounterInRange (x .1))
+use Rattle.round.specs.claims.Sound.{NumbersRight}
 
 -- every counter and every number given is in range
 pub record Ranged (s : State) : Type 0 where

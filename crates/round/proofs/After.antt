@@ -7,6 +7,7 @@ use mathlib.Core.List.{List, [], _++_}
 use mathlib.Core.Logic.{_≢_}
 use native.Mathlib.Decide.{ℕ-discrete}
 use lib.IntN.{ℤ}
+use Rattle.numbers.specs.Counting.{All, Among}
 use Rattle.verdicts.specs.Verdicts.{accepted}
 use Rattle.layout.specs.Layout.{routinesOf}
 use Rattle.book.specs.Accepted.{Accepted}
@@ -14,22 +15,17 @@ use Rattle.game.specs.declared.Game.{Game}
 use Rattle.game.specs.Game.{routineAt}
 use Rattle.fitting.specs.Fits.{Fits}
 use Rattle.round.specs.State.{State, withMoves, Happening}
-use Rattle.round.specs.Counting.{Among}
 use Rattle.round.specs.Actions.{atStart}
-use Rattle.round.specs.Rounds.{again, mostPasses, listedIn, turn, pass, instant, round, historyOf}
+use Rattle.round.specs.Rounds.{again, mostPasses, listedIn, turn, pass, instant, round, back, historyOf}
 use Rattle.round.specs.Answers.{answer}
+use Rattle.round.specs.claims.Sound.{Sound}
 use Rattle.round.proofs.Telling.{accepted-played}
-use Rattle.round.proofs.Among.{All, all-among}
+use Rattle.round.proofs.Among.{all-among}
 use Rattle.round.proofs.Along.{pass-along, instant-along}
 use Rattle.round.proofs.TurnLaws.{Turned}
-use Rattle.round.proofs.Sound.{Sound}
 use Rattle.round.proofs.StartSound.{listed-below, at-start-sound}
 use Rattle.round.proofs.TurnSound.{turn-sound, again-sound}
 use Rattle.round.proofs.Turned.{turn-turned}
-
--- the state behind a round
-abbrev pub back : List ℕ → Game → State
-back book g = round book g .played .state
 
 -- what a round keeps from state s to state u
 pub record Kept (s u : State) : Type 0 where

@@ -25,8 +25,8 @@ use Rattle.round.specs.Actions.{positionOf}
 use Rattle.round.specs.Jumps.{sizeOf}
 use Rattle.round.specs.Ticks.{Tick, tick, fresh}
 use Rattle.round.specs.Rounds.{Ticks, follow, ticks, afterTurn, Played, taken, isDone, ticksOf, turn}
-use Rattle.round.specs.Demand.{IsPast}
-use Rattle.round.specs.Again.{TriesAgain}
+use Rattle.round.specs.claims.Demand.{IsPast}
+use Rattle.round.specs.claims.Again.{TriesAgain}
 use Rattle.round.proofs.TurnLaws.{isGoing, Waits, waits-too}
 use Rattle.round.proofs.Asking.{asked-there, asked-missing}
 use Rattle.round.proofs.AfterTurn.{going-parts, turn-over, turn-taken, behind-same}

@@ -7,6 +7,7 @@ use mathlib.Core.List.{List}
 use native.Mathlib.Omega.{arith}
 use lib.Dec.{leb}
 use borrow.Author.Tests.{leb-true, le-leb, lt-leb}
+use Rattle.numbers.specs.Counting.{countBelow}
 use Rattle.numbers.proofs.Below.{below-le}
 use Rattle.numbers.proofs.Tests.{and-both, both-true}
 use Rattle.kinds.specs.declared.Counts.{Counts}
@@ -15,7 +16,6 @@ use Rattle.blocks.specs.Blocks.{stands, deepest}
 use Rattle.blocks.specs.Parse.{ParsedBlock, WhilesPause}
 use Rattle.blocks.proofs.Views.{standing-below}
 use Rattle.round.specs.Jumps.{sizeOf}
-use Rattle.round.specs.Counting.{countBelow}
 use Rattle.round.proofs.Counting.{one, one-le, count-drops}
 use Rattle.round.proofs.Leads.{isHalt, formAt, Leads}
 use Rattle.round.proofs.Falls.{rank, falls, going-below}

@@ -3,12 +3,13 @@
 -- told between them, from the states that turns keep.
 use Prim.Native.Nat.{ℕ, zero, suc}
 use mathlib.Core.List.{List, [], _∷_, _++_}
+use Rattle.numbers.specs.Counting.{All}
 use Rattle.numbers.proofs.Tests.{by-test}
 use Rattle.game.specs.declared.Game.{Game}
 use Rattle.round.specs.State.{State, Happening}
 use Rattle.round.specs.Actions.{atStart}
 use Rattle.round.specs.Rounds.{Played, followedBy, allDone, again, mostPasses, listedIn, turn, pass, Round, instant, round, historyOf}
-use Rattle.round.proofs.Among.{All, each-among}
+use Rattle.round.proofs.Among.{each-among}
 
 module _
     (Claim : State → Played → Type 0) (none : (s : State) → Claim s (record { state = s; told = []; turns = [] }))

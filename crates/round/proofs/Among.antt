@@ -8,15 +8,10 @@ use mathlib.Core.Logic.{_⊎_, inl, inr, ⊎-elim}
 use native.Mathlib.Omega.{arith}
 use native.Mathlib.Decide.{ℕ-discrete}
 use lib.ListN.{length, getD}
+use Rattle.numbers.specs.Counting.{All, Somewhere, Among}
 use Rattle.numbers.proofs.Tests.{clash, by-test}
 use Rattle.fitting.proofs.Room.{few}
-use Rattle.round.specs.Counting.{Somewhere, Among}
 use Rattle.round.specs.Actions.{kept}
-
--- P holds of each of some
-abbrev pub All : {A : Type 0} → (A → Type 0) → List A → Type 0
-All P [] = Unit {0}
-All P (x ∷ xs) = P x × All P xs
 
 pub all-append : {A : Type 0} (P : A → Type 0) (xs ys : List A) → All P xs → All P ys → All P (xs ++ ys)
 all-append P [] ys h k = k

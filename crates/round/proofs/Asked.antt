@@ -4,6 +4,7 @@ use Prim.Native.Nat.{ℕ}
 use mathlib.Core.Path.{_≡_, ap, subst}
 use mathlib.Core.List.{List, [], _∷_, _++_}
 use mathlib.Core.Logic.{_⊎_, inl, inr}
+use Rattle.numbers.specs.Counting.{Somewhere}
 use Rattle.kinds.specs.declared.Step.{Step}
 use Rattle.forms.specs.Timed as timed
 use Rattle.forms.specs.Timed.{Timed}
@@ -15,10 +16,9 @@ use Rattle.round.specs.declared.Position.{Position}
 use Rattle.round.specs.declared.Effect.{Effect}
 use Rattle.round.specs.declared.Act.the-variants.{Goes}
 use Rattle.round.specs.State.{State, Thing, Happening, gave, ended, missing, past, marked, completed}
-use Rattle.round.specs.Counting.{Somewhere}
 use Rattle.round.specs.Ticks.{telling, tick}
 use Rattle.round.specs.Rounds.{turn, historyOf}
-use Rattle.round.specs.Demand.{AsksFor, wait, waitFor, join, joinFor, read}
+use Rattle.round.specs.claims.Demand.{AsksFor, wait, waitFor, join, joinFor, read}
 use Rattle.round.proofs.Acts.{Asks, Says, silent, marks, gives, givesNumber, finds, Stops, ends, rests, misses, continues}
 use Rattle.round.proofs.Asking.{asked-goes}
 use Rattle.round.proofs.Along.{round-always}

@@ -17,7 +17,7 @@ use Rattle.round.specs.declared.Effect.the-variants.{Nothing, Put}
 use Rattle.round.specs.declared.Act.the-variants.{Goes, Halts}
 use Rattle.round.specs.State.{State, Thing, signal, end, Happening, missing, past, numberAt, isThere}
 use Rattle.round.specs.Ticks.{Tick, telling, fresh, begunAt, countAt, tries, waitsFor, tickOf, tickAt}
-use Rattle.round.specs.Demand.{AsksFor, wait, waitFor, join, joinFor, read}
+use Rattle.round.specs.claims.Demand.{AsksFor, wait, waitFor, join, joinFor, read}
 use Rattle.round.proofs.Acts.{Asks}
 
 -- a step asks for one thing

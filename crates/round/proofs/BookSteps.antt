@@ -6,16 +6,16 @@ use mathlib.Core.Bool.{Bool}
 use mathlib.Core.List.{List}
 use native.Mathlib.Nat.{add-zero}
 use native.Mathlib.Omega.{arith}
+use Rattle.numbers.specs.Counting.{All, countBelow, sumBelow}
 use Rattle.kinds.specs.Steps.{opAt}
 use Rattle.layout.specs.Layout.{mostSteps, routinesOf, stepsOf}
 use Rattle.directory.specs.Directory.{firstStep, stepCount, stepsBefore, routinePart, routineSteps}
 use Rattle.book.specs.Book.{stepsPart}
 use Rattle.book.specs.Accepted.{Accepted}
 use Rattle.book.proofs.Parts.{same-taken, same-routine}
-use Rattle.numbers.specs.Below.{sumBelow}
 use Rattle.numbers.proofs.Below.{below-same, below-cut}
-use Rattle.round.specs.Counting.{countBelow, stepsIn}
-use Rattle.round.proofs.Among.{All, Distinct}
+use Rattle.round.specs.claims.Demand.{countSteps}
+use Rattle.round.proofs.Among.{Distinct}
 use Rattle.round.proofs.Counting.{one, count-all}
 use Rattle.round.proofs.Sums.{over-le, over-below}
 
@@ -53,13 +53,13 @@ module _ (book : List ℕ) (a : Accepted book) where
 
     pub steps-in-book :
         (L : List ℕ) → Distinct L → All (λ r. r < routinesOf book) L →
-        stepsIn book (λ r p. test (opAt (routineSteps book r) p)) L ≤ countBelow (λ i. test (opAt (stepsPart book) i)) (stepsOf book)
+        countSteps book (λ r p. test (opAt (routineSteps book r) p)) L ≤ countBelow (λ i. test (opAt (stepsPart book) i)) (stepsOf book)
     steps-in-book L d all =
         let whole = over-below (λ r. countBelow (inRoutine r) (stepCount book r)) (routinesOf book) L d all in
         rw (← a .directed .total) (omega (arith, first-routines (routinesOf book) (omega arith)))
 
   module _ (set : ℕ → ℕ → Bool) (L : List ℕ) (distinct : Distinct L) (below : All (λ r. r < routinesOf book) L) where
-    pub all-in-book : stepsIn book set L ≤ stepsOf book
+    pub all-in-book : countSteps book set L ≤ stepsOf book
     unfolding stepsBefore
     all-in-book =
         omega (
@@ -69,5 +69,5 @@ module _ (book : List ℕ) (a : Accepted book) where
           a .directed .total,
         )
 
-    pub few-steps : stepsIn book set L ≤ mostSteps
+    pub few-steps : countSteps book set L ≤ mostSteps
     few-steps = omega (arith, all-in-book, a .laid .counts .fewSteps)

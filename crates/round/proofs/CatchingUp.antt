@@ -7,13 +7,13 @@ use mathlib.Core.List.{List, [], _∷_, _++_, append-assoc}
 use mathlib.Core.Logic.{_⊎_, inl, inr, _≢_}
 use native.Mathlib.Decide.{ℕ-discrete}
 use native.Mathlib.Omega.{arith}
+use Rattle.numbers.specs.Counting.{All, howMany, Among, Somewhere}
 use Rattle.numbers.proofs.Tests.{clash, by-flag}
 use Rattle.round.specs.State.{State, Thing, Happening, gave, ended, missing, past, marked, completed, isThere}
-use Rattle.round.specs.Counting.{howMany, Among, Somewhere}
 use Rattle.round.specs.Rounds.{Played, again, turn, pass}
-use Rattle.round.specs.Demand.{Comes, IsPast, here, later, CatchesUp}
-use Rattle.round.specs.Whole.{isMiss}
-use Rattle.round.proofs.Among.{All, somewhere-append}
+use Rattle.round.specs.claims.Demand.{Comes, IsPast, here, later, CatchesUp}
+use Rattle.round.specs.claims.Whole.{isMiss}
+use Rattle.round.proofs.Among.{somewhere-append}
 use Rattle.round.proofs.TurnLaws.{isGoing, moves, Turned, others-going, Waits, waits-too, ToBeContinued, TurnLaws}
 use Rattle.round.proofs.Histories.{moves-append, EachWith, each-at, nothing-comes}
 use Rattle.round.proofs.Closing.{there-again, waits-again}

@@ -13,8 +13,8 @@ use Rattle.fitting.specs.Fits.{Fits}
 use Rattle.round.specs.State.{State}
 use Rattle.round.specs.Actions.{atStart}
 use Rattle.round.specs.Rounds.{listedIn}
-use Rattle.round.specs.Again.{Begins, Closes}
-use Rattle.round.proofs.Sound.{Sound}
+use Rattle.round.specs.claims.Again.{Begins, Closes}
+use Rattle.round.specs.claims.Sound.{Sound}
 use Rattle.round.proofs.StartSound.{listed-below, at-start-sound}
 use Rattle.round.proofs.TurnSound.{again-sound}
 use Rattle.round.proofs.Waiting.{pass-stays}

@@ -7,11 +7,10 @@ use mathlib.Core.List.{List, [], _∷_}
 use mathlib.Core.Logic.{inl, inr}
 use native.Mathlib.Decide.{ℕ-discrete}
 use native.Mathlib.Omega.{arith}
+use Rattle.numbers.specs.Counting.{All, howMany, Among}
 use Rattle.numbers.proofs.Tests.{clash, both-true, not-true-false, by-flag}
 use Rattle.round.specs.State.{State, Thing, signal, end, number, isThere, isEndThere}
-use Rattle.round.specs.Counting.{howMany, Among}
 use Rattle.round.specs.Rounds.{Played, allDone, again, turn, pass}
-use Rattle.round.proofs.Among.{All}
 use Rattle.round.proofs.Histories.{moves-append}
 use Rattle.round.proofs.TurnLaws.{isGoing, moves, Waits, TurnLaws}
 use Rattle.round.proofs.Waiting.{done-append, pass-stays, unmoved-pass, turn-done, was-going}

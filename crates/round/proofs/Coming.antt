@@ -8,6 +8,7 @@ use mathlib.Core.Logic.{inl, inr}
 use native.Mathlib.Omega.{arith}
 use native.Mathlib.Decide.{decLt}
 use lib.ListN.{length}
+use Rattle.numbers.specs.Counting.{howMany, Somewhere}
 use Rattle.numbers.proofs.Tests.{clash}
 use Rattle.kinds.specs.declared.Counts.{Counts}
 use Rattle.layout.specs.Layout.{mostSignals, countsOf}
@@ -16,10 +17,9 @@ use Rattle.round.specs.declared.Position.{Position}
 use Rattle.round.specs.declared.Effect.{Effect}
 use Rattle.round.specs.declared.Effect.the-variants.{Mark}
 use Rattle.round.specs.State.{State, Thing, signal, end, number, Happening, gave, completed, isThere}
-use Rattle.round.specs.Counting.{howMany, Somewhere}
 use Rattle.round.specs.Ticks.{effectOn}
 use Rattle.round.specs.Rounds.{ticks, ticksOf}
-use Rattle.round.specs.Demand.{givesSignal, endsRoutine, Comes}
+use Rattle.round.specs.claims.Demand.{givesSignal, endsRoutine, Comes}
 use Rattle.round.proofs.Acts.{Right, Says}
 use Rattle.round.proofs.Stepping.{ticks-along}
 use Rattle.round.proofs.Standings.{StillThere}

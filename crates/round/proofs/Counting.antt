@@ -10,10 +10,9 @@ use native.Mathlib.Numerals.{add-one}
 use native.Mathlib.Omega.{arith}
 use borrow.Author.Tests.{ne-eqb}
 use Rattle.numbers.specs.Choice.{if_then_else_}
+use Rattle.numbers.specs.Counting.{countBelow, Counted, sumBelow}
 use Rattle.numbers.proofs.Tests.{clash}
-use Rattle.numbers.specs.Below.{sumBelow}
 use Rattle.numbers.proofs.Below.{without, below-le, below-without}
-use Rattle.round.specs.Counting.{countBelow}
 
 -- what one place counts
 abbrev pub one : Bool → ℕ
@@ -44,13 +43,7 @@ unfolding sumBelow
 count-all P zero = omega arith
 count-all P (suc n) = omega (arith, one-le (P n) true (λ h. refl), count-all P n)
 
--- of the first n numbers, m are such
-pub data Counted (Such : ℕ → Type 0) : ℕ → ℕ → Type 0 where
-  none : Counted Such 0 0
-  such : {n m : ℕ} → Counted Such n m → Such n → Counted Such (suc n) (suc m)
-  other : {n m : ℕ} → Counted Such n m → (Such n → ⊥) → Counted Such (suc n) m
-
--- so are those counted by a test that passes at them alone
+-- the numbers that are such are those counted by a test that passes at them alone
 module _ (test : ℕ → Bool) (Such : ℕ → Type 0) where
   pub counted : (n : ℕ) → ((i : ℕ) → i < n → (test i ≡ true) ↔ Such i) → Counted Such n (countBelow test n)
   unfolding sumBelow

@@ -8,6 +8,7 @@ use mathlib.Core.List.{List}
 use mathlib.Core.Logic.{_⊎_, inl, inr, ⊎-elim}
 use native.Mathlib.Decide.{ℕ-discrete}
 use native.Mathlib.Omega.{arith}
+use Rattle.numbers.specs.Counting.{Among}
 use Rattle.kinds.specs.declared.Step.{Step}
 use Rattle.kinds.specs.declared.Counts.{Counts}
 use Rattle.kinds.specs.Steps.{stepAt}
@@ -27,21 +28,19 @@ use Rattle.round.specs.declared.Act.{Act}
 use Rattle.round.specs.declared.Act.the-variants.{Goes, Halts}
 use Rattle.round.specs.declared.Turn.the-variants.{Took}
 use Rattle.round.specs.State.{State, Thing, signal, end, Happening, isThere}
-use Rattle.round.specs.Counting.{Among}
 use Rattle.round.specs.Actions.{positionOf, atStart}
 use Rattle.round.specs.Jumps.{sizeOf}
 use Rattle.round.specs.Ticks.{begunAt, countAt, tickAt, tick, fresh}
-use Rattle.round.specs.Rounds.{Ticks, follow, ticks, mostTicks, stageAfter, Played, taken, isDone, listedIn}
+use Rattle.round.specs.Rounds.{Ticks, follow, ticks, mostTicks, stageAfter, Played, taken, isDone, listedIn, back}
 use Rattle.round.specs.Rounds.{ticksOf, turn, historyOf}
-use Rattle.round.specs.Demand.{AsksFor}
-use Rattle.round.specs.Timed.{hasThing, isPausing, TimedRound, CountsDown}
+use Rattle.round.specs.claims.Demand.{AsksFor}
+use Rattle.round.specs.claims.Timed.{hasThing, isPausing, TimedRound, CountsDown}
+use Rattle.round.specs.claims.Sound.{Sound}
 use Rattle.round.proofs.Acts.{Asks}
 use Rattle.round.proofs.Timed.{timed-tick}
 use Rattle.round.proofs.TurnLaws.{isGoing}
-use Rattle.round.proofs.Sound.{Sound}
 use Rattle.round.proofs.Standings.{StillThere}
 use Rattle.round.proofs.Coming.{turn-untouched}
-use Rattle.round.proofs.After.{back}
 use Rattle.round.proofs.AfterTurn.{turn-over, turn-taken, routine-after, position-after, after-going}
 use Rattle.round.proofs.Turned.{turn-turned}
 use Rattle.round.proofs.Again.{first-tick}

@@ -11,6 +11,7 @@ use native.Mathlib.Omega.{arith}
 use borrow.Author.Tests.{eq-eqb}
 use lib.ListN.{length}
 use lib.IntN.{ℤ}
+use Rattle.numbers.specs.Counting.{Among}
 use Rattle.numbers.proofs.Tests.{clash}
 use Rattle.verdicts.specs.Verdicts.{accepted}
 use Rattle.layout.specs.Layout.{routinesOf}
@@ -18,12 +19,11 @@ use Rattle.book.specs.Accepted.{Accepted}
 use Rattle.game.specs.declared.Game.{Game}
 use Rattle.game.specs.Game.{continuing, rested, ended, notStarted, stopped, routineAt}
 use Rattle.fitting.specs.Fits.{Fits, In}
-use Rattle.round.specs.Counting.{Among}
 use Rattle.round.specs.Actions.{atStart}
-use Rattle.round.specs.Rounds.{mostPasses, listedIn, round}
+use Rattle.round.specs.Rounds.{mostPasses, listedIn, round, back}
 use Rattle.round.specs.Answers.{spaceFor, answer}
-use Rattle.round.specs.Tells.{RoundTells}
-use Rattle.round.specs.Demand.{Demand3}
+use Rattle.round.specs.claims.Tells.{RoundTells}
+use Rattle.round.specs.claims.Demand.{Demand3}
 use Rattle.round.proofs.Telling.{round-told-only, answer-verdict, accepted-played}
 use Rattle.round.proofs.StartSound.{listed-below, at-start-sound, among-listed}
 use Rattle.round.proofs.Passes.{FairRound, fair-round}
@@ -31,7 +31,7 @@ use Rattle.round.proofs.TurnLaws.{isGoing}
 use Rattle.round.proofs.Lawful.{turn-laws}
 use Rattle.round.proofs.Enough.{enough}
 use Rattle.round.proofs.Once.{completed-once}
-use Rattle.round.proofs.After.{back, round-keeps}
+use Rattle.round.proofs.After.{round-keeps}
 
 -- of the stages of a listed routine, those in which it does not go on
 rests-or-ends :

@@ -21,10 +21,10 @@ use Rattle.round.specs.declared.Effect.{Effect}
 use Rattle.round.specs.declared.Effect.the-variants.{Nothing, Mark, Put, Add, Give, GiveNumber, Start, Stop, Suspend, Resume}
 use Rattle.round.specs.State.{State, withGame, withNumbers}
 use Rattle.round.specs.Ticks.{given, effectOn}
-use Rattle.round.proofs.Acts.{NumbersRight, Ranged, Right, nothing, mark, put, add, give, giveNumber}
+use Rattle.round.specs.claims.Sound.{Sound, NumbersRight}
+use Rattle.round.proofs.Acts.{Ranged, Right, nothing, mark, put, add, give, giveNumber}
 use Rattle.round.proofs.Acts.{start, stop, suspend, resume}
 use Rattle.round.proofs.Among.{all-append}
-use Rattle.round.proofs.Sound.{Sound}
 
 module _ {book : List ℕ} {s : State} (h : Sound book s) where
   -- counters in use are in range, the others are 0, and so is anything beyond the array

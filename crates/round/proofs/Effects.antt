@@ -24,7 +24,7 @@ use Rattle.round.specs.State.{State, withGame, withNumbers, Thing, signa
 use Rattle.round.specs.State.{hasEnded, isEndThere, isThere}
 use Rattle.round.specs.Actions.{positionOf}
 use Rattle.round.specs.Ticks.{given, effectOn}
-use Rattle.round.specs.Demand.{Comes}
+use Rattle.round.specs.claims.Demand.{Comes}
 use Rattle.round.proofs.Acts.{isGiving}
 use Rattle.round.proofs.Standings.{SameStanding, same-standing, standing-then, SameStandings, StillThere}
 

@@ -11,6 +11,7 @@ use borrow.Author.Tests.{eq-eqb, ne-eqb, eqb-true}
 use lib.Dec.{eqb}
 use lib.ListN.{length}
 use Rattle.numbers.specs.Choice.{if_then_else_}
+use Rattle.numbers.specs.Counting.{sumOver, howMany, Somewhere, Among}
 use Rattle.numbers.proofs.Tests.{clash}
 use Rattle.kinds.specs.declared.Counts.{Counts}
 use Rattle.layout.specs.Layout.{routinesOf}
@@ -23,16 +24,15 @@ use Rattle.fitting.specs.Fits.{Fits}
 use Rattle.round.specs.declared.Ending.{Ending}
 use Rattle.round.specs.declared.Position.{Position}
 use Rattle.round.specs.State.{State, Happening, gave, ended, missing, past, marked, completed}
-use Rattle.round.specs.Counting.{sumOver, howMany, Somewhere, Among}
 use Rattle.round.specs.Actions.{kept, atStart}
-use Rattle.round.specs.Rounds.{stageAfter, listedIn, ticksOf, turn, historyOf}
-use Rattle.round.specs.Demand.{endsRoutine}
+use Rattle.round.specs.Rounds.{stageAfter, listedIn, ticksOf, turn, historyOf, back}
+use Rattle.round.specs.claims.Demand.{endsRoutine}
+use Rattle.round.specs.claims.Sound.{Sound}
 use Rattle.round.proofs.Acts.{Stops, ends, rests, misses, continues}
 use Rattle.round.proofs.Counting.{one}
 use Rattle.round.proofs.Sums.{own-sum, none-sum, alone-sum, kept-sum}
 use Rattle.round.proofs.Histories.{none-of-all, many-append, none-told}
-use Rattle.round.proofs.After.{back, round-along}
-use Rattle.round.proofs.Sound.{Sound}
+use Rattle.round.proofs.After.{round-along}
 use Rattle.round.proofs.StartSound.{listed-distinct, among-listed, listed-stage}
 use Rattle.round.proofs.Coming.{turn-untouched}
 use Rattle.round.proofs.AfterTurn.{going-parts, turn-by, routine-after}

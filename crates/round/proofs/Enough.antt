@@ -8,6 +8,7 @@ use mathlib.Core.List.{List}
 use mathlib.Core.Logic.{inl, inr}
 use native.Mathlib.Omega.{arith}
 use lib.ListN.{length}
+use Rattle.numbers.specs.Counting.{All, countBelow, howMany}
 use Rattle.numbers.proofs.Tests.{by-test}
 use Rattle.kinds.specs.declared.Counts.{Counts}
 use Rattle.layout.specs.Layout.{mostRoutines, routinesOf, countsOf}
@@ -19,14 +20,13 @@ use Rattle.round.specs.declared.Position.{Position}
 use Rattle.round.specs.declared.Act.{Act}
 use Rattle.round.specs.declared.Act.the-variants.{Goes, Halts}
 use Rattle.round.specs.State.{State}
-use Rattle.round.specs.Counting.{countBelow, stepsIn, howMany}
 use Rattle.round.specs.Actions.{atStart}
 use Rattle.round.specs.Ticks.{tick, fresh, effectOn}
 use Rattle.round.specs.Rounds.{follow, ticks, passThen, mostPasses, listedIn, turn, pass, instant, round}
-use Rattle.round.specs.Enough.{IfItGoesOn, InTime, RoundEnds, Enough}
-use Rattle.round.specs.Demand.{isSignalStep, givesSignal, endsRoutine}
-use Rattle.round.proofs.Among.{All, among-all, kept-short}
-use Rattle.round.proofs.Sound.{Sound}
+use Rattle.round.specs.claims.Enough.{IfItGoesOn, InTime, RoundEnds, Enough}
+use Rattle.round.specs.claims.Demand.{isSignalStep, givesSignal, endsRoutine, countSteps}
+use Rattle.round.specs.claims.Sound.{Sound}
+use Rattle.round.proofs.Among.{among-all, kept-short}
 use Rattle.round.proofs.TurnLaws.{isGoing, moves}
 use Rattle.round.proofs.Sums.{over-le, kept-sum}
 use Rattle.round.proofs.Actions.{staying-short, at-start-entries}
@@ -77,7 +77,7 @@ module _ (book : List ℕ) (a : Accepted book) where
   -- some routines have no more left than they have
   pub total-left :
       (set : ℕ → ℕ → Bool) (L : List ℕ) → All (λ r. r < routinesOf book) L → (s : State) →
-      total (leftOf book a set) L s ≤ stepsIn book set L
+      total (leftOf book a set) L s ≤ countSteps book set L
   total-left set L all s =
       over-le _ _ L (λ r h.
       by-test (λ (n : ℕ). n ≤ countBelow (set r) (stepCount book r)) (isGoing s r)

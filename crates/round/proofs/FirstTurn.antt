@@ -6,6 +6,7 @@ use mathlib.Core.Path.{_≡_, refl, sym, ap, _∙_, subst}
 use mathlib.Core.Bool.{true, false}
 use mathlib.Core.List.{List, [], _∷_, _++_}
 use mathlib.Core.Logic.{_⊎_, inl, inr, ⊎-elim}
+use Rattle.numbers.specs.Counting.{Somewhere, Among}
 use Rattle.numbers.proofs.Tests.{clash, by-flag}
 use Rattle.kinds.specs.Steps.{stepAt}
 use Rattle.layout.specs.Layout.{routinesOf, countsOf}
@@ -16,15 +17,14 @@ use Rattle.game.specs.Game.{routineAt}
 use Rattle.fitting.specs.Fits.{Fits}
 use Rattle.round.specs.declared.Position.{Position}
 use Rattle.round.specs.State.{State, Thing, Happening, missing, completed, isThere}
-use Rattle.round.specs.Counting.{Somewhere, Among}
 use Rattle.round.specs.Actions.{positionOf, atStart}
-use Rattle.round.specs.Rounds.{again, listedIn, turn, historyOf}
-use Rattle.round.specs.Demand.{Comes, IsPast}
+use Rattle.round.specs.Rounds.{again, listedIn, turn, historyOf, back}
+use Rattle.round.specs.claims.Demand.{Comes, IsPast}
+use Rattle.round.specs.claims.Sound.{Sound}
 use Rattle.round.proofs.Acts.{Asks}
 use Rattle.round.proofs.TurnLaws.{isGoing, waits-at}
 use Rattle.round.proofs.Among.{somewhere-append, in-first, in-second}
-use Rattle.round.proofs.After.{back, own-and-others}
-use Rattle.round.proofs.Sound.{Sound}
+use Rattle.round.proofs.After.{own-and-others}
 use Rattle.round.proofs.StartSound.{among-listed, listed-stage}
 use Rattle.round.proofs.Standings.{SameStanding, same-standing, StillThere}
 use Rattle.round.proofs.Again.{misses-again, goes-past}

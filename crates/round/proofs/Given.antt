@@ -8,6 +8,7 @@ use native.Mathlib.Omega.{arith}
 use borrow.Author.Tests.{ne-eqb}
 use lib.ListN.{length, length-append}
 use lib.IntN.{ℤ}
+use Rattle.numbers.specs.Counting.{howMany}
 use Rattle.kinds.specs.declared.Counts.{Counts}
 use Rattle.layout.specs.Layout.{countsOf}
 use Rattle.directory.specs.Directory.{routineSteps}
@@ -16,11 +17,10 @@ use Rattle.round.specs.declared.Position.{Position}
 use Rattle.round.specs.declared.Effect.{Effect}
 use Rattle.round.specs.declared.Effect.the-variants.{GiveNumber}
 use Rattle.round.specs.State.{State, completed, Happening, gave, numbersOf}
-use Rattle.round.specs.Counting.{howMany}
 use Rattle.round.specs.Actions.{atStart}
 use Rattle.round.specs.Ticks.{effectOn}
 use Rattle.round.specs.Rounds.{ticks, ticksOf, turn, pass, instant, round}
-use Rattle.round.specs.Tells.{givesNumber, numbersGiven}
+use Rattle.round.specs.claims.Tells.{givesNumber, numbersGiven}
 use Rattle.round.proofs.Along.{pass-always, instant-always, round-always}
 use Rattle.round.proofs.Acts.{Right, isGiving, Says}
 use Rattle.round.proofs.Histories.{many-append, stops-none}

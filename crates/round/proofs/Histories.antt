@@ -8,14 +8,14 @@ use mathlib.Core.Logic.{inl, inr}
 use native.Mathlib.Omega.{arith}
 use lib.IntN.{ℤ}
 use Rattle.numbers.specs.Choice.{if_then_else_}
+use Rattle.numbers.specs.Counting.{howMany, Somewhere}
 use Rattle.numbers.proofs.Tests.{clash}
 use Rattle.kinds.specs.declared.Counts.{Counts}
 use Rattle.round.specs.declared.Ending.{Ending}
 use Rattle.round.specs.declared.Position.{Position}
 use Rattle.round.specs.declared.Effect.{Effect}
 use Rattle.round.specs.State.{State, Thing, signal, end, number, Happening, gave, ended, missing, past, marked}
-use Rattle.round.specs.Counting.{howMany, Somewhere}
-use Rattle.round.specs.Demand.{givesSignal, endsRoutine, Comes, signalGiven, routineEnded, numberGiven}
+use Rattle.round.specs.claims.Demand.{givesSignal, endsRoutine, Comes, signalGiven, routineEnded, numberGiven}
 use Rattle.round.proofs.Acts.{Says, silent, marks, gives, givesNumber, finds, Stops, ends, rests, misses, continues}
 use Rattle.round.proofs.TurnLaws.{moves}
 

@@ -6,6 +6,7 @@ use mathlib.Core.List.{List}
 use native.Mathlib.Decide.{decLt}
 use native.Mathlib.Omega.{arith}
 use Rattle.numbers.specs.Choice.{if_then_else_}
+use Rattle.numbers.specs.Counting.{countBelow}
 use Rattle.numbers.proofs.Tests.{by-test}
 use Rattle.kinds.specs.declared.Counts.{Counts}
 use Rattle.blocks.specs.Blocks.{deepest}
@@ -18,10 +19,9 @@ use Rattle.round.specs.declared.Act.{Act}
 use Rattle.round.specs.declared.Act.the-variants.{Goes, Halts}
 use Rattle.round.specs.State.{State, Happening}
 use Rattle.round.specs.Jumps.{sizeOf}
-use Rattle.round.specs.Counting.{countBelow}
 use Rattle.round.specs.Ticks.{tick, fresh, effectOn}
 use Rattle.round.specs.Rounds.{mostTicks}
-use Rattle.round.specs.Enough.{IfItGoesOn, InTime}
+use Rattle.round.specs.claims.Enough.{IfItGoesOn, InTime}
 use Rattle.round.proofs.Counting.{one, count-all}
 use Rattle.round.proofs.Leads.{isHalt, formAt, Leaves, leads, restOver}
 use Rattle.round.proofs.Acts.{Sorted}

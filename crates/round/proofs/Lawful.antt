@@ -4,7 +4,7 @@ use Prim.Native.Nat.{ℕ, _<_}
 use mathlib.Core.List.{List}
 use Rattle.layout.specs.Layout.{routinesOf}
 use Rattle.book.specs.Accepted.{Accepted}
-use Rattle.round.proofs.Sound.{Sound}
+use Rattle.round.specs.claims.Sound.{Sound}
 use Rattle.round.proofs.TurnLaws.{TurnLaws}
 use Rattle.round.proofs.TurnSound.{turn-sound, again-sound}
 use Rattle.round.proofs.Turned.{turn-turned}

@@ -26,7 +26,6 @@ pub mod Shaping
 pub mod Entries
 pub mod Actions
 pub mod Listing
-pub mod Sound
 pub mod StartSound
 -- what steps and turns keep and bring
 pub mod Standings

@@ -6,6 +6,7 @@ use mathlib.Core.List.{List, [], _∷_, _++_}
 use mathlib.Core.Logic.{inl, inr, ⊎-elim}
 use native.Mathlib.Omega.{arith}
 use lib.ListN.{length, length-set, length-append, getD-replicate}
+use Rattle.numbers.specs.Counting.{Among, All}
 use Rattle.layout.specs.Layout.{routinesOf}
 use Rattle.book.specs.Accepted.{CountsInRange}
 use Rattle.lines.specs.declared.Line.{Line}
@@ -15,10 +16,9 @@ use Rattle.fitting.specs.Fits.{In, Fits}
 use Rattle.fitting.proofs.Lists.{joined, LineRight}
 use Rattle.fitting.proofs.Decides.{fit-lists}
 use Rattle.orders.proofs.Starts.{joined-right, joined-adds}
-use Rattle.round.proofs.Among.{All, all-append, among-all, Distinct, distinct-joined, distinct-few}
+use Rattle.round.proofs.Among.{all-append, among-all, Distinct, distinct-joined, distinct-few}
 use Rattle.round.proofs.Entries.{pushed-joined, appended-entries}
 use Rattle.round.proofs.Entries.{SizedRight, entries-length, among-in, entries-below, entries-distinct}
-use Rattle.round.specs.Counting.{Among}
 
 -- different routines of the book that are not in a list, appended to it
 appended-more :

@@ -8,6 +8,7 @@ use mathlib.Core.Logic.{_↔_}
 use borrow.Author.Tests.{eq-eqb, eqb-true}
 use lib.Dec.{eqb}
 use lib.IntN.{ℤ}
+use Rattle.numbers.specs.Counting.{Counted}
 use Rattle.kinds.specs.Ops.{opMark}
 use Rattle.kinds.specs.declared.Kind.{Kind}
 use Rattle.kinds.specs.declared.Kind.the-variants.{Mark}
@@ -21,7 +22,8 @@ use Rattle.book.specs.Accepted.{Accepted}
 use Rattle.book.proofs.Routines.{step-kind}
 use Rattle.round.specs.State.{Happening, gave, ended, missing, past, marked, completed}
 use Rattle.round.specs.Answers.{markSteps, marksIn}
-use Rattle.round.proofs.Counting.{Counted, counted}
+use Rattle.round.specs.claims.Tells.{MarkAt}
+use Rattle.round.proofs.Counting.{counted}
 use Rattle.round.proofs.Forms.{step-op}
 
 -- marks in what happened, one thing after the other
@@ -48,10 +50,6 @@ mark-step counts steps i e = (
   λ h. (fieldN steps i, mark-row _ (fieldA steps i) (fieldB steps i) _ (eqb-true _ _ h) (row-kind counts steps i e)),
   λ v. eq-eqb _ _ (step-op counts steps i (e ∙ ap step.Kind (v .1))),
 )
-
--- step i of a book is a mark
-abbrev pub MarkAt : List ℕ → ℕ → Type 0
-MarkAt book i = (n : ℤ) × (stepAt (countsOf book) (stepsPart book) i ≡ step.Kind (Mark n))
 
 -- "the book's mark steps"
 pub mark-steps : (book : List ℕ) → Accepted book → Counted (MarkAt book) (stepsOf book) (markSteps (stepsPart book) (stepsOf book))

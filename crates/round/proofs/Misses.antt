@@ -4,6 +4,7 @@ use Prim.Native.Nat.{ℕ, _<_}
 use mathlib.Core.Path.{_≡_, refl, ap, _∙_}
 use mathlib.Core.List.{List, [], _∷_}
 use native.Mathlib.Omega.{arith}
+use Rattle.numbers.specs.Counting.{howMany}
 use Rattle.kinds.specs.declared.Counts.{Counts}
 use Rattle.layout.specs.Layout.{routinesOf}
 use Rattle.book.specs.Accepted.{Accepted}
@@ -13,10 +14,9 @@ use Rattle.round.specs.declared.Ending.{Ending}
 use Rattle.round.specs.declared.Position.{Position}
 use Rattle.round.specs.declared.Turn.the-variants.{Took}
 use Rattle.round.specs.State.{State, Happening}
-use Rattle.round.specs.Counting.{howMany}
 use Rattle.round.specs.Actions.{atStart}
 use Rattle.round.specs.Rounds.{Played, followedBy, mostPasses, listedIn, turn, round, historyOf}
-use Rattle.round.specs.Whole.{isMiss, lacksThing}
+use Rattle.round.specs.claims.Whole.{isMiss, lacksThing}
 use Rattle.round.proofs.Acts.{Stops, ends, rests, misses, continues}
 use Rattle.round.proofs.Along.{instant-by}
 use Rattle.round.proofs.StartSound.{listed-below, at-start-sound}

@@ -7,18 +7,18 @@ use mathlib.Core.List.{List}
 use native.Mathlib.Omega.{arith}
 use lib.Dec.{eqb}
 use lib.ListN.{length}
+use Rattle.numbers.specs.Counting.{howMany}
 use Rattle.kinds.specs.Ops.{opMark}
 use Rattle.layout.specs.Layout.{stepsOf}
 use Rattle.book.specs.Accepted.{Accepted}
 use Rattle.game.specs.declared.Game.{Game}
 use Rattle.fitting.specs.Fits.{Fits}
-use Rattle.round.specs.Counting.{stepsIn, howMany}
 use Rattle.round.specs.Actions.{atStart}
 use Rattle.round.specs.Rounds.{listedIn, round, historyOf}
 use Rattle.round.specs.Answers.{marksIn}
-use Rattle.round.specs.Tells.{numbersGiven}
-use Rattle.round.specs.Demand.{isSignalStep, givesSignal}
-use Rattle.round.specs.Completed.{completes, theStep, isMarkStep, isAddition, CompletedOnce}
+use Rattle.round.specs.claims.Tells.{numbersGiven}
+use Rattle.round.specs.claims.Demand.{isSignalStep, givesSignal, countSteps}
+use Rattle.round.specs.claims.Completed.{completes, theStep, isMarkStep, isAddition, CompletedOnce}
 use Rattle.round.proofs.StartSound.{listed-distinct, listed-below, at-start-sound}
 use Rattle.round.proofs.Given.{numbers-as-told}
 use Rattle.round.proofs.Paying.{leftOf, turn-pays}
@@ -29,16 +29,16 @@ use Rattle.round.proofs.OneStep.{one-of-distinct}
 use Rattle.round.proofs.Enough.{total-left}
 
 module _ (book : List ℕ) (a : Accepted book) (g : Game) (f : Fits book g) where
-  each-once : (set : ℕ → ℕ → Bool) → howMany (completes set) (historyOf book g) ≤ stepsIn book set (listedIn g)
+  each-once : (set : ℕ → ℕ → Bool) → howMany (completes set) (historyOf book g) ≤ countSteps book set (listedIn g)
   each-once set =
       let below = listed-below (at-start-sound book g a f) in
       let paid = round-pays book a (completes set) (leftOf book a set) (turn-pays book a set) g f in
       omega (arith, total-left book a set (listedIn g) below (atStart g))
 
-  signals-once : howMany givesSignal (historyOf book g) ≤ stepsIn book (isSignalStep book) (listedIn g)
+  signals-once : howMany givesSignal (historyOf book g) ≤ countSteps book (isSignalStep book) (listedIn g)
   signals-once = omega (arith, signals-completed book g, each-once (isSignalStep book))
 
-  marks-once : length (marksIn (historyOf book g)) ≤ stepsIn book (isMarkStep book) (listedIn g)
+  marks-once : length (marksIn (historyOf book g)) ≤ countSteps book (isMarkStep book) (listedIn g)
   marks-once = omega (arith, marks-completed book g, each-once (isMarkStep book))
 
   numbers-in-book : numbersGiven (historyOf book g) ≤ stepsOf book

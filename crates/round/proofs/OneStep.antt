@@ -9,11 +9,11 @@ use native.Mathlib.Decide.{ℕ-discrete}
 use native.Mathlib.Omega.{arith}
 use borrow.Author.Tests.{eq-eqb, ne-eqb}
 use lib.Dec.{eqb}
+use Rattle.numbers.specs.Counting.{countBelow, sumBelow}
 use Rattle.directory.specs.Directory.{stepCount}
-use Rattle.numbers.specs.Below.{sumBelow}
 use Rattle.numbers.proofs.Below.{below-same}
-use Rattle.round.specs.Counting.{countBelow, stepsIn}
-use Rattle.round.specs.Completed.{theStep}
+use Rattle.round.specs.claims.Demand.{countSteps}
+use Rattle.round.specs.claims.Completed.{theStep}
 use Rattle.round.proofs.Among.{Distinct}
 use Rattle.round.proofs.Counting.{one}
 use Rattle.round.proofs.Sums.{alone-le}
@@ -39,7 +39,7 @@ module _ (r p : ℕ) where
   not-own : (q : ℕ) → q ≢ r → (n : ℕ) → countBelow (theStep r p q) n ≡ 0
   not-own q d n = count-none (theStep r p q) n (λ o l. rw (ne-eqb q r d))
 
-  pub one-of-distinct : (book L : List ℕ) → Distinct L → stepsIn book (theStep r p) L ≤ 1
+  pub one-of-distinct : (book L : List ℕ) → Distinct L → countSteps book (theStep r p) L ≤ 1
   one-of-distinct book L d =
       let all = alone-le (λ q. countBelow (theStep r p q) (stepCount book q)) r (λ q n. not-own q n (stepCount book q)) L d in
       let own = below-same (λ o. one (theStep r p r o)) (λ o. one (eqb o p)) (stepCount book r) (λ o l. rw (eq-eqb r r refl)) in

@@ -5,6 +5,7 @@ use mathlib.Core.Path.{_≡_, sym, ap, _∙_}
 use mathlib.Core.Bool.{true, false, not}
 use mathlib.Core.List.{List, [], _∷_, _++_}
 use borrow.Author.Tests.{not-true, not-false}
+use Rattle.numbers.specs.Counting.{howMany}
 use Rattle.layout.specs.Layout.{routinesOf, countsOf}
 use Rattle.directory.specs.Directory.{routineSteps}
 use Rattle.book.specs.Accepted.{Accepted}
@@ -12,10 +13,9 @@ use Rattle.game.specs.Game.{routineAt}
 use Rattle.round.specs.declared.Ending.{Ending}
 use Rattle.round.specs.declared.Turn.the-variants.{Took}
 use Rattle.round.specs.State.{State}
-use Rattle.round.specs.Counting.{howMany}
 use Rattle.round.specs.Actions.{positionOf}
 use Rattle.round.specs.Rounds.{Ticks, mostTicks, afterTurn, isDone, ticksOf, turn}
-use Rattle.round.specs.Whole.{isMiss}
+use Rattle.round.specs.claims.Whole.{isMiss}
 use Rattle.round.proofs.Histories.{none-of-both}
 use Rattle.round.proofs.Effects.{Untouched}
 use Rattle.round.proofs.TurnLaws.{isGoing, waits-at, ToBeContinued}

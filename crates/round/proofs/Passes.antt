@@ -6,13 +6,12 @@ use mathlib.Core.Bool.{true, false, not}
 use mathlib.Core.List.{List, [], append-nil}
 use mathlib.Core.Logic.{_⊎_, inl, inr}
 use native.Mathlib.Omega.{arith}
+use Rattle.numbers.specs.Counting.{All, Among}
 use Rattle.numbers.proofs.Tests.{clash, by-test, by-flag}
-use Rattle.round.specs.Counting.{Among}
 use Rattle.round.specs.State.{State, Thing, Happening, isThere}
 use Rattle.round.specs.Rounds.{followedBy, allDone, again, pass, Round, instant}
-use Rattle.round.specs.Demand.{CatchesUp}
-use Rattle.round.specs.Enough.{RoundEnds}
-use Rattle.round.proofs.Among.{All}
+use Rattle.round.specs.claims.Demand.{CatchesUp}
+use Rattle.round.specs.claims.Enough.{RoundEnds}
 use Rattle.round.proofs.Histories.{moves-append, nothing-comes}
 use Rattle.round.proofs.Asking.{asks-once}
 use Rattle.round.proofs.TurnLaws.{isGoing, moves, Waits, Lacks, TurnLaws}

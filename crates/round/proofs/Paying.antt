@@ -8,6 +8,7 @@ use mathlib.Core.List.{List, [], _∷_}
 use mathlib.Core.Logic.{_≢_}
 use native.Mathlib.Omega.{arith}
 use Rattle.numbers.specs.Choice.{if_then_else_}
+use Rattle.numbers.specs.Counting.{howMany}
 use Rattle.layout.specs.Layout.{routinesOf, countsOf}
 use Rattle.directory.specs.Directory.{routineSteps}
 use Rattle.book.specs.Accepted.{Accepted}
@@ -17,12 +18,12 @@ use Rattle.round.specs.declared.Position.{Position}
 use Rattle.round.specs.declared.Effect.{Effect}
 use Rattle.round.specs.declared.Turn.the-variants.{Took}
 use Rattle.round.specs.State.{State, Thing, Happening, ended, missing, completed}
-use Rattle.round.specs.Counting.{howMany}
 use Rattle.round.specs.Actions.{positionOf}
 use Rattle.round.specs.Ticks.{fresh}
 use Rattle.round.specs.Rounds.{ticks, isDone, ticksOf, turn}
-use Rattle.round.specs.Demand.{endsRoutine}
-use Rattle.round.specs.Completed.{completes}
+use Rattle.round.specs.claims.Demand.{endsRoutine}
+use Rattle.round.specs.claims.Completed.{completes}
+use Rattle.round.specs.claims.Sound.{Sound}
 use Rattle.round.proofs.Counting.{one}
 use Rattle.round.proofs.Histories.{many-append, says-none}
 use Rattle.round.proofs.Leads.{Leaves}
@@ -30,7 +31,6 @@ use Rattle.round.proofs.Acts.{Says, Stops}
 use Rattle.round.proofs.Stepping.{ticks-by}
 use Rattle.round.proofs.Lasting.{left, left-less}
 use Rattle.round.proofs.Coming.{turn-untouched}
-use Rattle.round.proofs.Sound.{Sound}
 use Rattle.round.proofs.TurnLaws.{isGoing}
 use Rattle.round.proofs.AfterTurn.{turn-by, position-after, after-going}
 use Rattle.round.proofs.Turned.{turn-turned}

@@ -7,22 +7,22 @@ use mathlib.Core.List.{List, [], _∷_, _++_}
 use mathlib.Core.Logic.{inl, inr}
 use native.Mathlib.Decide.{ℕ-discrete}
 use native.Mathlib.Omega.{arith}
+use Rattle.numbers.specs.Counting.{All, sumOver, howMany, Among}
 use Rattle.layout.specs.Layout.{routinesOf}
 use Rattle.book.specs.Accepted.{Accepted}
 use Rattle.game.specs.declared.Game.{Game}
 use Rattle.fitting.specs.Fits.{Fits}
 use Rattle.round.specs.declared.Position.{Position}
 use Rattle.round.specs.State.{State, Happening}
-use Rattle.round.specs.Counting.{sumOver, howMany, Among}
 use Rattle.round.specs.Actions.{atStart}
-use Rattle.round.specs.Rounds.{listedIn, turn, pass, historyOf}
+use Rattle.round.specs.Rounds.{listedIn, turn, pass, historyOf, back}
+use Rattle.round.specs.claims.Sound.{Sound}
 use Rattle.round.proofs.Sums.{over-le}
 use Rattle.round.proofs.Histories.{many-append}
-use Rattle.round.proofs.Among.{All, all-among}
+use Rattle.round.proofs.Among.{all-among}
 use Rattle.round.proofs.Along.{pass-along}
-use Rattle.round.proofs.Sound.{Sound}
 use Rattle.round.proofs.TurnSound.{turn-sound}
-use Rattle.round.proofs.After.{back, round-along}
+use Rattle.round.proofs.After.{round-along}
 use Rattle.round.proofs.Paying.{worth, turn-spares}
 
 -- what some routines have left together

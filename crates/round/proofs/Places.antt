@@ -8,6 +8,7 @@ use mathlib.Core.Logic.{_⊎_, inl}
 use native.Mathlib.Decide.{decLt}
 use native.Mathlib.Omega.{arith}
 use borrow.Author.Tests.{eq-eqb}
+use Rattle.numbers.specs.Counting.{howMany, Somewhere}
 use Rattle.kinds.specs.Ops.{opRest, opRestFor}
 use Rattle.numbers.proofs.Tests.{clash}
 use Rattle.kinds.specs.declared.Kind.{Kind}
@@ -26,12 +27,11 @@ use Rattle.round.specs.declared.Position.{Position}
 use Rattle.round.specs.declared.Effect.{Effect}
 use Rattle.round.specs.declared.Act.the-variants.{Halts}
 use Rattle.round.specs.State.{State, Thing, Happening, gave, ended, missing, past, marked, completed}
-use Rattle.round.specs.Counting.{howMany, Somewhere}
 use Rattle.round.specs.Jumps.{sizeOf}
 use Rattle.round.specs.Ticks.{telling, tick, effectOn}
 use Rattle.round.specs.Rounds.{Ticks, ticks}
-use Rattle.round.specs.Replay.{Contents, leftBy, atStep, leadsTo, madeOf, contentsAfter, ledBy, placeAfter}
-use Rattle.round.specs.Whole.{isOf}
+use Rattle.round.specs.claims.Replay.{Contents, leftBy, atStep, leadsTo, madeOf, contentsAfter, ledBy, placeAfter}
+use Rattle.round.specs.claims.Whole.{isOf}
 use Rattle.round.proofs.Acts.{Says, silent, marks, gives, givesNumber, finds, Stops, ends, rests, misses, continues}
 use Rattle.round.proofs.Among.{in-second as later}
 use Rattle.round.proofs.Histories.{none-of-all}

@@ -34,7 +34,7 @@ use Rattle.round.specs.Jumps.{sizeOf}
 use Rattle.round.specs.Ticks.{Tick, telling, fresh, countAt, onward, tries, waitsFor, tickOf, quits, tickAt, tick}
 use Rattle.round.specs.Ticks.{effectOn}
 use Rattle.round.specs.Rounds.{ticks, ticksOf, turn, round, historyOf}
-use Rattle.round.specs.Replay.{Contents, madeBy, leadsTo, leftBy, atStep, madeOf, contentsAfter}
+use Rattle.round.specs.claims.Replay.{Contents, madeBy, leadsTo, leftBy, atStep, madeOf, contentsAfter}
 use Rattle.round.proofs.Stepping.{ticks-by}
 use Rattle.round.proofs.Along.{round-always}
 use Rattle.round.proofs.AfterTurn.{end-keeps, turn-by}

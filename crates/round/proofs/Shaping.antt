@@ -4,6 +4,7 @@ use Prim.Native.Nat.{ℕ}
 use mathlib.Core.Path.{_≡_, refl}
 use mathlib.Core.Bool.{true, false}
 use mathlib.Core.List.{List, [], _∷_, _++_, append-assoc}
+use Rattle.numbers.specs.Counting.{howMany}
 use Rattle.numbers.proofs.Tests.{clash}
 use Rattle.kinds.specs.declared.Counts.{Counts}
 use Rattle.kinds.specs.Steps.{stepAt}
@@ -12,11 +13,10 @@ use Rattle.round.specs.declared.Ending.the-variants.{Continued}
 use Rattle.round.specs.declared.Position.{Position}
 use Rattle.round.specs.declared.Turn.the-variants.{Took}
 use Rattle.round.specs.State.{State, Thing, Happening, missing, completed, isThere}
-use Rattle.round.specs.Counting.{howMany}
 use Rattle.round.specs.Rounds.{Ticks, ticks, isDone}
-use Rattle.round.specs.Enough.{InTime}
-use Rattle.round.specs.Demand.{endsRoutine}
-use Rattle.round.specs.Whole.{isMiss}
+use Rattle.round.specs.claims.Enough.{InTime}
+use Rattle.round.specs.claims.Demand.{endsRoutine}
+use Rattle.round.specs.claims.Whole.{isMiss}
 use Rattle.round.proofs.Histories.{none-of-both, says-none}
 use Rattle.round.proofs.Acts.{Asks}
 use Rattle.round.proofs.Acts.{Stops, ends, rests, misses, continues}

@@ -34,10 +34,11 @@ use Rattle.round.specs.declared.Effect.the-variants.{Put}
 use Rattle.round.specs.State.{State, signal, end, number, numbersWith, numberAt}
 use Rattle.round.specs.Jumps.{sizeOf}
 use Rattle.round.specs.Ticks.{fresh, countAt, tickOf, tickAt, tick}
-use Rattle.round.specs.Demand.{wait, waitFor, join, joinFor, read}
+use Rattle.round.specs.claims.Demand.{wait, waitFor, join, joinFor, read}
+use Rattle.round.specs.claims.Sound.{NumbersRight}
 use Rattle.round.proofs.Forms.{opOf, step-op}
 use Rattle.round.proofs.Leads.{isHalt, nextBy, formAt, Leaves, leads, restOver}
-use Rattle.round.proofs.Acts.{NumbersRight, Sorted, SortedTick}
+use Rattle.round.proofs.Acts.{Sorted, SortedTick}
 use Rattle.round.proofs.Acts.{nothing, mark, put, add, give, giveNumber, start, stop, suspend, resume}
 use Rattle.round.proofs.Acts.{silent, marks, gives, givesNumber, ends, rests}
 use Rattle.round.proofs.Fields.{FieldsRight, fields-right}

@@ -9,6 +9,7 @@ use mathlib.Core.Logic.{_⊎_, inl, inr, ⊎-elim}
 use native.Mathlib.Omega.{arith}
 use lib.Dec.{eqb}
 use lib.ListN.{length, getD, length-map, getD-replicate, length-replicate, List·getD-map}
+use Rattle.numbers.specs.Counting.{Among, All}
 use Rattle.layout.specs.Layout.{mostRoutines, mostSignals, routinesOf}
 use Rattle.book.specs.Accepted.{CountsInRange, Accepted}
 use Rattle.game.specs.declared.Routine.{Routine}
@@ -20,13 +21,12 @@ use Rattle.fitting.proofs.Routines.{UnderWay}
 use Rattle.round.specs.declared.Position.{Position}
 use Rattle.round.specs.State.{State}
 use Rattle.round.specs.Actions.{kept, inStage1, inStage4, withoutOrders, atStart}
-use Rattle.round.proofs.Among.{in-first, in-second, All, among-all, Distinct, among-or, among-kept, distinct-kept}
-use Rattle.round.proofs.Sound.{Sound}
+use Rattle.round.proofs.Among.{in-first, in-second, among-all, Distinct, among-or, among-kept, distinct-kept}
 use Rattle.round.proofs.Entries.{entries-below, in-among, among-in, entries-distinct, SizedRight}
 use Rattle.round.proofs.Actions.{each-length, each-other, each-given, startsOf, joinedOf, first, stops, stays, leaving, staying}
 use Rattle.round.proofs.Actions.{halted, last, at-start-routines, at-start-positions, kept-below, staying-short, at-start-entries}
 use Rattle.round.proofs.Listing.{appended-right, lists-right, joined-entries, joined-distinct}
-use Rattle.round.specs.Counting.{Among}
+use Rattle.round.specs.claims.Sound.{Sound}
 
 -- the playing order of a sound state is of routines of the book
 pub listed-below : {book : List ℕ} {s : State} → Sound book s → All (λ r. r < routinesOf book) (entriesOf (s .game .listed))

@@ -13,7 +13,7 @@ use Rattle.round.specs.declared.Act.the-variants.{Goes, Halts}
 use Rattle.round.specs.State.{State, Happening, completed}
 use Rattle.round.specs.Ticks.{telling, tick, fresh, effectOn}
 use Rattle.round.specs.Rounds.{Ticks, follow, ticks}
-use Rattle.round.specs.Enough.{IfItGoesOn, InTime}
+use Rattle.round.specs.claims.Enough.{IfItGoesOn, InTime}
 use Rattle.round.proofs.Leads.{Leaves}
 use Rattle.round.proofs.Acts.{Right, Says, Stands, Stops, Sorted}
 use Rattle.round.proofs.Sorting.{sorted}

@@ -7,13 +7,12 @@ use mathlib.Core.List.{List, [], _∷_}
 use mathlib.Core.Logic.{inl, inr, ⊎-elim, _≢_}
 use native.Mathlib.Omega.{arith}
 use lib.ListN.{length}
+use Rattle.numbers.specs.Counting.{All, sumOver, Among, sumBelow}
 use Rattle.numbers.proofs.Tests.{by-test}
-use Rattle.numbers.specs.Below.{sumBelow}
 use Rattle.numbers.proofs.Below.{without, without-other, below-without}
-use Rattle.round.specs.Counting.{sumOver, Among}
 use Rattle.round.specs.Actions.{kept}
 use Rattle.round.proofs.Counting.{one}
-use Rattle.round.proofs.Among.{All, Distinct, among-or}
+use Rattle.round.proofs.Among.{Distinct, among-or}
 
 pub over-le : (f g : ℕ → ℕ) (rs : List ℕ) → ((r : ℕ) → Among r rs → f r ≤ g r) → sumOver f rs ≤ sumOver g rs
 unfolding sumOver

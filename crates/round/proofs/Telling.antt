@@ -20,7 +20,7 @@ use Rattle.fitting.specs.Fits.{Fits}
 use Rattle.orders.proofs.Telling.{unfit-told, past-fit, by-fit}
 use Rattle.round.specs.Rounds.{round}
 use Rattle.round.specs.Answers.{spaceFor, mostNumbers, roundVerdict, Answer, turnedDown, playedOut, answer}
-use Rattle.round.specs.Tells.{numbersGiven, RoundTells}
+use Rattle.round.specs.claims.Tells.{numbersGiven, RoundTells}
 use Rattle.round.proofs.Given.{numbers-as-told}
 
 pub round-told-only :

@@ -22,7 +22,7 @@ use Rattle.round.specs.declared.Act.the-variants.{Goes, Halts}
 use Rattle.round.specs.State.{State, Thing, signal, end, Happening, missing, past, isThere}
 use Rattle.round.specs.Ticks.{telling, begunAt, countAt, waitsFor, tickOf, tickAt}
 use Rattle.round.specs.Rounds.{stageAfter}
-use Rattle.round.specs.Timed.{hasThing, isPausing, TimedTick}
+use Rattle.round.specs.claims.Timed.{hasThing, isPausing, TimedTick}
 
 module _ (x : Position) (k : ℕ) where
   -- what the three come to

@@ -20,7 +20,7 @@ use Rattle.round.specs.declared.Effect.the-variants.{Nothing}
 use Rattle.round.specs.State.{State, Thing, missing, isThere}
 use Rattle.round.specs.Jumps.{sizeOf}
 use Rattle.round.specs.Ticks.{fresh, begunAt, countAt, tries, lacks, waits, waitsFor}
-use Rattle.round.specs.Demand.{AsksFor}
+use Rattle.round.specs.claims.Demand.{AsksFor}
 use Rattle.round.proofs.Leads.{Leaves}
 use Rattle.round.proofs.Acts.{Right, nothing, isGiving, Asks, Stands, silent}
 use Rattle.round.proofs.Acts.{finds, misses, continues, Sorted, SortedTick, isTelling}

@@ -5,20 +5,20 @@ use mathlib.Core.Path.{_≡_, refl, subst}
 use mathlib.Core.Bool.{true, false}
 use mathlib.Core.List.{List, _∷_, _++_}
 use mathlib.Core.Logic.{_⊎_, inl, inr, ⊎-elim}
+use Rattle.numbers.specs.Counting.{Somewhere}
 use Rattle.numbers.proofs.Tests.{not-true-false}
 use Rattle.layout.specs.Layout.{routinesOf}
 use Rattle.book.specs.Accepted.{Accepted}
 use Rattle.game.specs.declared.Game.{Game}
 use Rattle.fitting.specs.Fits.{Fits}
 use Rattle.round.specs.State.{State, Thing, Happening, missing, past, isThere}
-use Rattle.round.specs.Counting.{Somewhere}
 use Rattle.round.specs.Actions.{atStart}
-use Rattle.round.specs.Rounds.{turn, historyOf}
-use Rattle.round.specs.Demand.{Comes}
-use Rattle.round.proofs.After.{back, round-along}
-use Rattle.round.proofs.Sound.{Sound}
+use Rattle.round.specs.Rounds.{turn, historyOf, back}
+use Rattle.round.specs.claims.Demand.{Comes}
+use Rattle.round.proofs.After.{round-along}
 use Rattle.round.proofs.Turned.{turn-turned}
 use Rattle.numbers.proofs.Tests.{clash}
+use Rattle.round.specs.claims.Sound.{Sound}
 use Rattle.round.proofs.Closing.{there-again}
 use Rattle.round.proofs.TrueInOrder.{InOrder, order-at, There, Becomes, becomes-same, becomes-both, becomes-by, turn-order}
 

@@ -6,6 +6,7 @@ use mathlib.Core.Path.{_≡_, refl, sym, _∙_}
 use mathlib.Core.Bool.{Bool, true, false}
 use mathlib.Core.List.{List, [], _∷_, _++_}
 use mathlib.Core.Logic.{_↔_, Iff·symm, Iff·trans, _⊎_, inl, inr, ⊎-map, ⊎-elim}
+use Rattle.numbers.specs.Counting.{howMany, Somewhere}
 use Rattle.numbers.proofs.Tests.{clash}
 use Rattle.layout.specs.Layout.{countsOf}
 use Rattle.directory.specs.Directory.{routineSteps}
@@ -14,15 +15,14 @@ use Rattle.round.specs.declared.Position.{Position}
 use Rattle.round.specs.declared.Ending.{Ending}
 use Rattle.round.specs.declared.Effect.{Effect}
 use Rattle.round.specs.State.{State, Thing, Happening, gave, ended, missing, past, marked, completed, isThere}
-use Rattle.round.specs.Counting.{howMany, Somewhere}
 use Rattle.round.specs.Ticks.{effectOn}
 use Rattle.round.specs.Rounds.{ticks, turn}
-use Rattle.round.specs.Demand.{endsRoutine, Comes}
+use Rattle.round.specs.claims.Demand.{endsRoutine, Comes}
+use Rattle.round.specs.claims.Sound.{Sound}
 use Rattle.round.proofs.Acts.{Right, Says, Stops}
 use Rattle.round.proofs.Among.{somewhere-append, in-first, in-second}
 use Rattle.round.proofs.Histories.{says-none}
 use Rattle.round.proofs.Stepping.{ticks-by}
-use Rattle.round.proofs.Sound.{Sound}
 use Rattle.round.proofs.Standings.{StillThere}
 use Rattle.round.proofs.Coming.{goes-carries, all-brought}
 use Rattle.round.proofs.EffectSound.{effect-sound}

@@ -8,6 +8,7 @@ use mathlib.Core.List.{List, [], _∷_, _++_}
 use mathlib.Core.Logic.{_≢_}
 use native.Mathlib.Omega.{arith}
 use lib.Dec.{eqb}
+use Rattle.numbers.specs.Counting.{howMany, Somewhere}
 use Rattle.kinds.specs.Steps.{stepAt}
 use Rattle.layout.specs.Layout.{countsOf}
 use Rattle.directory.specs.Directory.{routineSteps}
@@ -20,10 +21,9 @@ use Rattle.round.specs.declared.Position.{Position}
 use Rattle.round.specs.declared.Turn.the-variants.{Took}
 use Rattle.round.specs.State.{State, Thing, Happening, missing, isThere}
 use Rattle.round.specs.Actions.{positionOf}
-use Rattle.round.specs.Counting.{howMany, Somewhere}
 use Rattle.round.specs.Rounds.{notTaken, isDone, again, turn}
-use Rattle.round.specs.Demand.{givesSignal, endsRoutine, Comes, IsPast}
-use Rattle.round.specs.Whole.{isMiss}
+use Rattle.round.specs.claims.Demand.{givesSignal, endsRoutine, Comes, IsPast}
+use Rattle.round.specs.claims.Whole.{isMiss}
 use Rattle.round.proofs.Acts.{Asks}
 use Rattle.round.proofs.Standings.{SameStanding, StillThere}
 

@@ -20,13 +20,13 @@ use Rattle.round.specs.State.{State, withGame}
 use Rattle.round.specs.Actions.{positionOf}
 use Rattle.round.specs.Jumps.{sizeOf}
 use Rattle.round.specs.Rounds.{ticks, mostTicks, stageAfter, withEnd, behindTurn, again, ticksOf, turn}
+use Rattle.round.specs.claims.Sound.{Sound}
 use Rattle.round.proofs.Leads.{Leaves, leads, restOver}
 use Rattle.round.proofs.Acts.{Stands}
 use Rattle.round.proofs.Tries.{fresh-stands}
 use Rattle.round.proofs.Stepping.{ticks-by}
 use Rattle.round.proofs.Falls.{leads-inside}
 use Rattle.round.proofs.Parsed.{size-same, parse-of, parse-pauses}
-use Rattle.round.proofs.Sound.{Sound}
 use Rattle.round.proofs.Coming.{turn-untouched}
 use Rattle.round.proofs.AfterTurn.{going-parts, end-keeps, turn-by}
 use Rattle.round.proofs.EffectSound.{game-sound, effect-sound}

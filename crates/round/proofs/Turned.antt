@@ -10,6 +10,7 @@ use native.Mathlib.Omega.{arith}
 use native.Mathlib.Decide.{ℕ-discrete}
 use lib.ListN.{length}
 use lib.Seq.{getD-set-same, getD-set-other}
+use Rattle.numbers.specs.Counting.{howMany, Somewhere}
 use Rattle.numbers.proofs.Tests.{clash, by-flag}
 use Rattle.kinds.specs.declared.Counts.{Counts}
 use Rattle.layout.specs.Layout.{mostSignals, routinesOf, countsOf}
@@ -21,9 +22,9 @@ use Rattle.round.specs.declared.Ending.{Ending}
 use Rattle.round.specs.declared.Ending.the-variants.{Ended, Rested, Missed, Continued}
 use Rattle.round.specs.declared.Position.{Position}
 use Rattle.round.specs.State.{State, withGame, Thing, signal, end, number, Happening, ended, hasEnded, isEndThere, isThere}
-use Rattle.round.specs.Counting.{howMany, Somewhere}
 use Rattle.round.specs.Rounds.{Ticks, stageAfter, behindTurn, afterTurn, ticksOf, turn}
-use Rattle.round.specs.Demand.{endsRoutine, Comes}
+use Rattle.round.specs.claims.Demand.{endsRoutine, Comes}
+use Rattle.round.specs.claims.Sound.{Sound}
 use Rattle.round.proofs.Acts.{Stops}
 use Rattle.round.proofs.Coming.{Carries, all-brought, turn-untouched, ticks-carry}
 use Rattle.round.proofs.Effects.{Untouched}
@@ -33,7 +34,6 @@ use Rattle.round.proofs.Standings.{SameStanding, same-standing, StillTh
 use Rattle.round.proofs.AfterTurn.{going-parts, turn-by, there-behind}
 use Rattle.round.proofs.Shaping.{Shape}
 use Rattle.round.proofs.TurnLaws.{moves, OthersStand, passed-same, Turned}
-use Rattle.round.proofs.Sound.{Sound}
 use Rattle.round.proofs.Outcomes.{turn-shape}
 
 passed-over : {r : ℕ} {s : State} → Turned r s [] s

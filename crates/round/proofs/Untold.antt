@@ -6,6 +6,7 @@ use mathlib.Core.Bool.{false}
 use mathlib.Core.List.{List, [], _∷_, _++_}
 use mathlib.Core.Logic.{inl, _≢_}
 use borrow.Author.Tests.{ne-eqb}
+use Rattle.numbers.specs.Counting.{howMany}
 use Rattle.numbers.proofs.Tests.{by-flag}
 use Rattle.layout.specs.Layout.{routinesOf, countsOf}
 use Rattle.directory.specs.Directory.{routineSteps}
@@ -16,10 +17,9 @@ use Rattle.fitting.specs.Fits.{Fits}
 use Rattle.round.specs.declared.Effect.{Effect}
 use Rattle.round.specs.declared.Position.{Position}
 use Rattle.round.specs.State.{State, Happening, completed}
-use Rattle.round.specs.Counting.{howMany}
 use Rattle.round.specs.Actions.{positionOf, atStart}
-use Rattle.round.specs.Rounds.{turn, historyOf}
-use Rattle.round.specs.Whole.{isOf, Plays}
+use Rattle.round.specs.Rounds.{turn, historyOf, back}
+use Rattle.round.specs.claims.Whole.{isOf, Plays}
 use Rattle.round.proofs.Acts.{Says}
 use Rattle.round.proofs.TurnLaws.{isGoing}
 use Rattle.round.proofs.Stepping.{ticks-along}
@@ -28,7 +28,7 @@ use Rattle.round.proofs.Standings.{SameStanding, same-standing, standin
 use Rattle.round.proofs.AfterTurn.{going-parts, turn-by, turn-over}
 use Rattle.round.proofs.Actions.{at-start-positions}
 use Rattle.round.proofs.StartSound.{at-start-sound, listed-among}
-use Rattle.round.proofs.After.{back, own-and-others}
+use Rattle.round.proofs.After.{own-and-others}
 
 -- nothing that is told is of routine r
 abbrev pub Untold : ℕ → List Happening → Type 0

@@ -8,14 +8,13 @@ use mathlib.Core.List.{List, [], _∷_, _++_}
 use mathlib.Core.Logic.{_⊎_, inl, inr, _≢_}
 use native.Mathlib.Decide.{ℕ-discrete}
 use native.Mathlib.Omega.{arith}
+use Rattle.numbers.specs.Counting.{All, Among}
 use Rattle.numbers.proofs.Tests.{and-both, not-true-false, by-flag}
 use Rattle.numbers.proofs.Tests.{clash}
 use Rattle.round.specs.declared.Turn.{Turn}
 use Rattle.round.specs.declared.Turn.the-variants.{Took}
 use Rattle.round.specs.State.{State, Happening}
-use Rattle.round.specs.Counting.{Among}
 use Rattle.round.specs.Rounds.{Played, followedBy, isDone, allDone, turn, pass}
-use Rattle.round.proofs.Among.{All}
 use Rattle.round.proofs.Along.{pass-along}
 use Rattle.round.proofs.Histories.{moves-append, nothing-comes}
 use Rattle.round.proofs.TurnLaws.{isGoing, moves, Passed, passed-same, others-going, waits-too, Lacks, TurnLaws}

@@ -19,18 +19,18 @@ use Rattle.round.specs.declared.Ending.the-variants.{Ended, Rested, Miss
 use Rattle.round.specs.declared.Position.{Position}
 use Rattle.round.specs.State.{State, Thing, Happening, missing, completed}
 use Rattle.round.specs.Actions.{positionOf, atStart}
-use Rattle.round.specs.Rounds.{behindTurn, afterTurn, ticksOf, turn, historyOf}
-use Rattle.round.specs.Replay.{placeAfter}
-use Rattle.round.specs.Whole.{LeftAt, Plays}
+use Rattle.round.specs.Rounds.{behindTurn, afterTurn, ticksOf, turn, historyOf, back}
+use Rattle.round.specs.claims.Replay.{placeAfter}
+use Rattle.round.specs.claims.Whole.{LeftAt, Plays}
+use Rattle.round.specs.claims.Sound.{Sound}
 use Rattle.round.proofs.TurnLaws.{takesTurn, isGoing}
 use Rattle.round.proofs.Among.{in-first, in-second}
 use Rattle.round.proofs.Standings.{SameStanding, same-standing}
 use Rattle.round.proofs.Parsed.{size-same}
-use Rattle.round.proofs.Sound.{Sound}
 use Rattle.round.proofs.Coming.{turn-untouched}
 use Rattle.round.proofs.AfterTurn.{going-parts, turn-by, routine-after}
 use Rattle.round.proofs.Actions.{at-start-positions}
-use Rattle.round.proofs.After.{back, own-and-others}
+use Rattle.round.proofs.After.{own-and-others}
 use Rattle.round.proofs.Demand.{none-going}
 use Rattle.round.proofs.FirstTurn.{due-first}
 use Rattle.round.proofs.Replays.{contentsOf, Makes, makes-same, makes-both, turn-makes}

@@ -4,7 +4,7 @@ use mathlib.Core.List.{List}
 use Rattle.book.specs.Accepted.{Accepted}
 use Rattle.game.specs.declared.Game.{Game}
 use Rattle.fitting.specs.Fits.{Fits}
-use Rattle.round.specs.Whole.{ToldWhole}
+use Rattle.round.specs.claims.Whole.{ToldWhole}
 use Rattle.round.proofs.Accounts.{signals-completed, marks-completed}
 use Rattle.round.proofs.Ends.{ends-counted, ended-as-told}
 use Rattle.round.proofs.Misses.{misses-told}

@@ -6,15 +6,15 @@ use lib.ListN.{length, drop}
 use lib.IntN.{ℤ, pos}
 use Rattle.kinds.specs.Ops.{opMark}
 use Rattle.numbers.specs.Choice.{if_then_else_}
+use Rattle.numbers.specs.Counting.{countBelow}
 use Rattle.kinds.specs.Steps.{opAt}
 use Rattle.verdicts.specs.declared.Verdict.{Verdict}
 use Rattle.verdicts.specs.Verdicts.{refused, _orElse_, unless}
 use Rattle.layout.specs.Layout.{stepsOf}
 use Rattle.book.specs.Book.{stepsPart, bookVerdict}
 use Rattle.game.specs.declared.Game.{Game}
-use Rattle.orders.specs.Orders.{fitVerdict}
 use Rattle.round.specs.State.{Happening, gave, ended, missing, past, marked, completed}
-use Rattle.round.specs.Counting.{countBelow}
+use Rattle.fitting.specs.Fitting.{fitVerdict}
 use Rattle.round.specs.Rounds.{Round, round}
 
 -- how many of the first n steps of a part of the book are mark steps

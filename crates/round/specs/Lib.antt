@@ -1,17 +1,11 @@
+-- what a round is
 pub mod State
-pub mod Counting
 pub mod Actions
 pub mod Jumps
 pub mod Ticks
 pub mod Rounds
-pub mod Enough
 pub mod Answers
-pub mod Tells
-pub mod Timed
-pub mod Demand
-pub mod Completed
-pub mod Replay
-pub mod Whole
-pub mod Again
-pub mod Examples
-pub mod Ops
+-- what is claimed of it
+pub mod claims
+-- rounds by evaluation
+pub mod examples

@@ -166,6 +166,10 @@ module _ (book : List ℕ) where
   unfoldable pub round : Game → Round
   round g = instant mostPasses (listedIn g) (atStart g)
 
+  -- the state behind it
+  abbrev pub back : Game → State
+  back g = round g .played .state
+
   -- what happens in it
   abbrev pub historyOf : Game → List Happening
   historyOf g = round g .played .told

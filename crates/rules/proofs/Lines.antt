@@ -11,7 +11,7 @@ use lib.Dec.{eqb}
 use lib.ListN.{length, getD, take}
 use lib.Seq.{take-suc}
 use Rattle.lines.specs.declared.Line.{Line}
-use Rattle.numbers.specs.Below.{anyBelow}
+use Rattle.numbers.specs.Counting.{anyBelow}
 use Rattle.lines.specs.Lines.{mostEntries, usedOf, isIn, entriesOf}
 use Rattle.fitting.proofs.Lists.{LineRight, used-all}
 use Rattle.rules.specs.Schedulers.{isAmong}

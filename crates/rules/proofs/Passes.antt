@@ -11,6 +11,7 @@ use native.Mathlib.Decide.{ℕ-discrete}
 use native.Mathlib.Numerals.{add-one}
 use borrow.Author.Tests.{eq-eqb, ne-eqb}
 use lib.Dec.{eqb}
+use Rattle.numbers.specs.Counting.{All}
 use Rattle.numbers.proofs.Tests.{clash}
 use Rattle.layout.specs.Layout.{routinesOf}
 use Rattle.directory.specs.Directory.{routineSteps}
@@ -27,10 +28,9 @@ use Rattle.round.specs.Actions.{positionOf}
 use Rattle.round.specs.Jumps.{sizeOf}
 use Rattle.round.specs.Rounds.{Ticks, mostTicks, afterTurn, Played, notTaken, taken, allDone, again, ticksOf, turn, pass, instant}
 use Rattle.round.specs.Answers.{marksIn}
-use Rattle.round.specs.Enough.{RoundEnds}
-use Rattle.round.proofs.Among.{All}
+use Rattle.round.specs.claims.Enough.{RoundEnds}
+use Rattle.round.specs.claims.Sound.{Sound}
 use Rattle.round.proofs.StartSound.{listed-below}
-use Rattle.round.proofs.Sound.{Sound}
 use Rattle.round.proofs.TurnLaws.{isGoing}
 use Rattle.round.proofs.Parsed.{size-same}
 use Rattle.round.proofs.Lasting.{routine-in-time}

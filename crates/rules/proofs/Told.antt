@@ -13,11 +13,11 @@ use Rattle.round.specs.declared.Position.{Position}
 use Rattle.round.specs.State.{State, Happening}
 use Rattle.round.specs.Rounds.{Ticks, ticks}
 use Rattle.round.specs.Answers.{marksIn}
-use Rattle.round.specs.Enough.{InTime}
+use Rattle.round.specs.claims.Enough.{InTime}
+use Rattle.round.specs.claims.Sound.{Sound}
 use Rattle.round.proofs.Marks.{marks-append}
 use Rattle.round.proofs.Acts.{Stops, ends, rests, misses, continues}
 use Rattle.round.proofs.Stepping.{ticks-in-time}
-use Rattle.round.proofs.Sound.{Sound}
 use Rattle.round.proofs.EffectSound.{effect-sound}
 use Rattle.rules.proofs.Walks.{Marks, HasRoom, Ends, halts, goes}
 

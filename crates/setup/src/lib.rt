@@ -1,21 +1,15 @@
 // Setting up a game. Document 01, "The game".
 use game::Game;
+use game::Outcome;
 use game::blank_game;
 use kinds::Counts;
 use layout::counts_of;
 use lines::push;
 use reading::read_book;
-use verdicts::Verdict;
 use verdicts::verdict_of;
 ghost use mathlib.Core.Path.{_≡_};
-ghost use Rattle.setup.specs.SetUp.{newGame, setUp, GivesFitting};
-
-// What set-up and an order answer: the verdict, and the game, which is as lent after a refusal.
-#[repr(C)]
-pub struct Outcome {
-    pub verdict: Verdict,
-    pub game: Game,
-}
+ghost use Rattle.fitting.specs.Fits.{GivesFitting};
+ghost use Rattle.setup.specs.SetUp.{newGame, setUp};
 
 // A game as set up for these numbers: a blank one, with routine 0 to start.
 fn new_game(counts: Counts) -> Game

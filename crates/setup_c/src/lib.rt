@@ -1,8 +1,9 @@
 // The call with which the benches set up a game.
 use game::Game;
-use setup::Outcome;
+use game::Outcome;
 ghost use mathlib.Core.Path.{_≡_};
-ghost use Rattle.setup.specs.SetUp.{setUp, GivesFitting};
+ghost use Rattle.fitting.specs.Fits.{GivesFitting};
+ghost use Rattle.setup.specs.SetUp.{setUp};
 
 // Sets up a game: the contract is that of `setup::set_up`.
 #[no_mangle]

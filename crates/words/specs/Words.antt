@@ -5,7 +5,7 @@ use mathlib.Core.List.{List}
 use lib.Dec.{eqb, ltb}
 use lib.ListN.{length, getD, take, drop}
 use Rattle.numbers.specs.Choice.{if_then_else_}
-use Rattle.numbers.specs.Below.{allBelow}
+use Rattle.numbers.specs.Counting.{allBelow}
 
 abbrev pub space : ℕ
 space = 32

@@ -10,7 +10,7 @@ use borrow.Author.Tests.{eq-eqb, ne-eqb}
 use lib.Dec.{eqb}
 use Rattle.numbers.specs.Choice.{if_then_else_}
 use Rattle.numbers.specs.Numbers.{halfLimit}
-use Rattle.numbers.specs.Below.{sumBelow}
+use Rattle.numbers.specs.Counting.{sumBelow}
 use Rattle.verdicts.specs.declared.Verdict.{Verdict}
 use Rattle.verdicts.specs.Verdicts.{accepted, refused, firstRefusal}
 use Rattle.layout.specs.Layout.{routinesOf, stepsOf}

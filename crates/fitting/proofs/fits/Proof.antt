@@ -10,7 +10,7 @@ use borrow.Author.Needs.{needs}
 use borrow.Author.Tests.{not-true, not-false}
 use Rattle.layout.specs.Layout.{mostRoutines, countsOf}
 use Rattle.numbers.specs.Numbers.{byteLimit}
-use Rattle.numbers.specs.Below.{allBelow}
+use Rattle.numbers.specs.Counting.{allBelow}
 use Rattle.numbers.proofs.Tests.{both-true}
 use Rattle.numbers.proofs.Below.{all-fails, all-next, all-ends}
 use Rattle.game.specs.declared.Game.{Game}

@@ -8,7 +8,7 @@ use native.Mathlib.Omega.{arith}
 use lib.ListN.{length}
 use borrow.Author.Needs.{needs}
 use borrow.Author.Tests.{lt-ltb, le-ltb, le-leb, lt-leb, eq-eqb, ne-eqb}
-use Rattle.numbers.specs.Below.{allBelow}
+use Rattle.numbers.specs.Counting.{allBelow}
 use Rattle.numbers.proofs.Below.{all-fails, all-next, all-ends}
 use Rattle.hex.specs.Hex.{longest, isDigitAt, isHex}
 use Rattle.hex.proofs.is_hex.Statement.{statement}

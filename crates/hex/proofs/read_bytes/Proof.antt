@@ -13,7 +13,7 @@ use Rattle.hex.specs.declared.Bytes.the-variants as bytes
 use Rattle.digits.specs.Digits.{minus}
 use Rattle.hex.specs.Hex.{longest, isDigitAt, isHex, writtenFrom, bytesIn, writtenIn}
 use Rattle.words.specs.Words.{isSame}
-use Rattle.numbers.specs.Below.{allBelow}
+use Rattle.numbers.specs.Counting.{allBelow}
 use Rattle.numbers.proofs.Tests.{and-both}
 use Rattle.hex.proofs.read_bytes.Statement.{statement}
 use Rattle.hex.proofs.read_bytes.Tie as tie

@@ -6,7 +6,7 @@ use lib.Dec.{eqb}
 use borrow.Author.Needs.{needs}
 use borrow.Author.Tests.{eq-eqb, ne-eqb}
 use Rattle.lines.specs.declared.Line.{Line}
-use Rattle.numbers.specs.Below.{anyBelow}
+use Rattle.numbers.specs.Counting.{anyBelow}
 use Rattle.lines.specs.Lines.{itemAt, usedOf, isIn}
 use Rattle.numbers.proofs.Below.{any-holds, any-next, any-ends}
 use Rattle.lines.proofs.is_in.Statement.{statement}

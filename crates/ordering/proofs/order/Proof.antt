@@ -9,9 +9,9 @@ use borrow.Author.Tests.{eq-eqb, ne-eqb}
 use lib.ListN.{List·getD-eq-default}
 use Rattle.layout.specs.Layout.{mostRoutines, mostSignals}
 use Rattle.game.specs.declared.Game.{Game}
-use Rattle.setup.specs.declared.Outcome.{Outcome}
-use Rattle.setup.specs.SetUp.{GivesFitting}
-use Rattle.setup.proofs.Answers.{promised}
+use Rattle.game.specs.declared.Outcome.{Outcome}
+use Rattle.fitting.specs.Fits.{GivesFitting}
+use Rattle.fitting.proofs.Outcomes.{promised}
 use Rattle.orders.specs.Orders.{orderCount, obeyed, ordered}
 use Rattle.orders.proofs.After.{order-fits}
 use Rattle.orders.proofs.Counts.{mostCounts, nameable, in-signals, in-routines}

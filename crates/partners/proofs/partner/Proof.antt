@@ -1,6 +1,6 @@
 -- `partners::partner` meets its contract. The loop's invariant: the search from where the code is, as deep as it is, finds what
 -- the whole search finds. Each arm takes one step of it. The depth fits, since it is at most the number of steps passed.
-use Prim.Native.Nat.{ℕ, _+_, _-_, _/_, _<_, _≤_}
+use Prim.Native.Nat.{ℕ, _+_, _-_, _<_, _≤_}
 use mathlib.Core.Path.{_≡_, sym, _∙_}
 use mathlib.Core.List.{List}
 use mathlib.Core.Logic.{⊎-elim, inl, inr}
@@ -8,9 +8,8 @@ use native.Mathlib.Nat.{sub-eq-zero-of-le}
 use native.Mathlib.Omega.{arith}
 use borrow.Author.Needs.{needs}
 use borrow.Author.Tests.{ne-eqb}
-use lib.ListN.{length}
 use Rattle.numbers.proofs.Left.{more-left}
-use Rattle.kinds.specs.Steps.{stepBytes, opAt}
+use Rattle.kinds.specs.Steps.{stepsIn, opAt}
 use Rattle.partners.specs.Partners.{partnerBy, partnerOf}
 use Rattle.partners.proofs.partner.Statement.{statement}
 use Rattle.partners.proofs.partner.Tie as tie
@@ -27,7 +26,7 @@ module _ (s : List ℕ) (n d p : ℕ) where
 
 abbrev Inv-scan : tie.InvT-scan
 Inv-scan steps first count at₀ depth₀ at depth =
-    (partnerOf steps (count - at) depth at ≡ partnerOf steps (length steps / stepBytes - first) 0 first) × (depth + first ≤ at)
+    (partnerOf steps (count - at) depth at ≡ partnerOf steps (stepsIn steps - first) 0 first) × (depth + first ≤ at)
 
 abbrev μ-scan : tie.MeasureT-scan
 μ-scan steps first count at₀ depth₀ at depth = count - at
@@ -36,8 +35,8 @@ abbrev μ-scan : tie.MeasureT-scan
 step-on : (c : tie.Else1 Inv-scan μ-scan) →
     let s = c .before .before .args .steps .now in
     let p = c .before .scan .at in
-    partnerBy (λ e. partnerOf s (length s / stepBytes - (p + 1)) e (p + 1)) (opAt s p) (c .before .scan .depth) p
-    ≡ partnerOf s (length s / stepBytes - c .before .before .args .first) 0 (c .before .before .args .first)
+    partnerBy (λ e. partnerOf s (stepsIn s - (p + 1)) e (p + 1)) (opAt s p) (c .before .scan .depth) p
+    ≡ partnerOf s (stepsIn s - c .before .before .args .first) 0 (c .before .before .args .first)
 step-on c = sym (partner-on _ _ _ _ (c .if1 .left)) ∙ c .before .scan .inv .0
 
 scan-again : tie.Need-scan-again Inv-scan μ-scan

@@ -9,7 +9,7 @@ use borrow.Author.Needs.{needs}
 use borrow.Author.Tests.{eq-eqb, ne-eqb}
 use lib.Dec.{eqb}
 use lib.ListN.{length, getD, List·getD-eq-default}
-use Rattle.numbers.specs.Below.{allBelow}
+use Rattle.numbers.specs.Counting.{allBelow}
 use Rattle.numbers.proofs.Below.{all-fails, all-next, all-ends}
 use Rattle.layout.specs.Layout.{mostRoutines}
 use Rattle.lines.specs.declared.Line.{Line}

@@ -5,7 +5,7 @@ use mathlib.Core.List.{List}
 use borrow.Author.Needs.{needs}
 use borrow.Author.Tests.{eq-eqb, ne-eqb}
 use Rattle.game.specs.Game.{blankGame}
-use Rattle.setup.specs.declared.Outcome.{Outcome}
+use Rattle.game.specs.declared.Outcome.{Outcome}
 use Rattle.setup.specs.SetUp.{setUp}
 use Rattle.listing.specs.Listing.{refusalLine}
 use Rattle.play_listing.specs.Printed.{mostRounds, linesFrom, printed}

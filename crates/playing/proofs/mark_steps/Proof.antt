@@ -10,7 +10,7 @@ use lib.Dec.{eqb}
 use lib.ListN.{getD}
 use lib.Seq.{getD-drop}
 use Rattle.kinds.specs.Ops.{opMark}
-use Rattle.numbers.specs.Below.{sumBelow}
+use Rattle.numbers.specs.Counting.{sumBelow}
 use Rattle.kinds.specs.Steps.{stepBytes}
 use Rattle.layout.specs.Layout.{stepsFrom}
 use Rattle.book.specs.Book.{stepsPart}

@@ -4,8 +4,8 @@ use mathlib.Core.Path.{_≡_, _∙_}
 use borrow.Author.Needs.{needs}
 use borrow.Author.Tests.{eq-eqb, ne-eqb}
 use Rattle.book.specs.Book.{bookVerdict}
+use Rattle.fitting.proofs.Outcomes.{promised}
 use Rattle.setup.specs.SetUp.{setUp}
-use Rattle.setup.proofs.Answers.{promised}
 use Rattle.setup.proofs.SetUp.{set-up-fits}
 use Rattle.setup.proofs.set_up.Statement.{statement}
 use Rattle.setup.proofs.set_up.Tie as tie

@@ -12,7 +12,7 @@ use mir.Syntax.{w32}
 use mir.Val.{SFits, toZ, ofZ}
 use mir.Facts.{toZ-ofZ}
 use Rattle.numbers.specs.Numbers.{isWithin}
-use Rattle.fitting.specs.Arrays.{allFrom}
+use Rattle.numbers.specs.Counting.{allFrom}
 use Rattle.fitting.proofs.Ranges.{turn-fits, turn-fails, turns-end}
 use Rattle.fitting.proofs.arrays.are_within.Statement.{statement}
 use Rattle.fitting.proofs.arrays.are_within.Tie as tie

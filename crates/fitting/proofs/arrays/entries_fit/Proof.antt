@@ -9,7 +9,7 @@ use mir.Syntax.{w8}
 use mir.Val.{Fits}
 use Rattle.numbers.specs.Numbers.{byteLimit}
 use Rattle.lines.specs.Lines.{itemAt}
-use Rattle.numbers.specs.Below.{allBelow}
+use Rattle.numbers.specs.Counting.{allBelow}
 use Rattle.numbers.proofs.Tests.{clash}
 use Rattle.numbers.proofs.Below.{all-fails, all-next, all-ends}
 use Rattle.fitting.specs.Arrays.{firstOf, entryFits, Marks}

@@ -6,8 +6,8 @@ use mathlib.Core.Logic.{⊎-elim}
 use lib.Dec.{eqb}
 use borrow.Author.Needs.{needs}
 use borrow.Author.Tests.{eq-eqb, ne-eqb}
+use Rattle.numbers.specs.Counting.{allFrom}
 use Rattle.lines.specs.Lines.{mostEntries, itemAt}
-use Rattle.fitting.specs.Arrays.{allFrom}
 use Rattle.fitting.proofs.Ranges.{turn-fits, turn-fails, turns-end}
 use Rattle.fitting.proofs.arrays.rest_fits.Statement.{statement}
 use Rattle.fitting.proofs.arrays.rest_fits.Tie as tie

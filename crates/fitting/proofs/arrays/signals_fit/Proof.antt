@@ -5,8 +5,9 @@ use mathlib.Core.Bool.{_&&_, false, not}
 use mathlib.Core.Logic.{⊎-elim}
 use lib.ListN.{getD}
 use borrow.Author.Needs.{needs}
+use Rattle.numbers.specs.Counting.{allFrom}
 use Rattle.layout.specs.Layout.{mostSignals}
-use Rattle.fitting.specs.Arrays.{allFrom, signalsFit}
+use Rattle.fitting.specs.Arrays.{signalsFit}
 use Rattle.fitting.proofs.Ranges.{turn-fits, turn-fails, turns-end}
 use Rattle.fitting.proofs.arrays.signals_fit.Statement.{statement}
 use Rattle.fitting.proofs.arrays.signals_fit.Tie as tie

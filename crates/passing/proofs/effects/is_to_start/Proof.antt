@@ -9,7 +9,7 @@ use lib.Dec.{eqb, ltb}
 use lib.ListN.{getD}
 use borrow.Author.Tests.{lt-ltb, le-ltb, eq-eqb, ne-eqb}
 use Rattle.numbers.specs.Choice.{if_then_else_}
-use Rattle.numbers.specs.Below.{anyBelow}
+use Rattle.numbers.specs.Counting.{anyBelow}
 use Rattle.numbers.proofs.Below.{any-holds, any-next, any-ends}
 use Rattle.lines.specs.Lines.{mostEntries, isIn}
 use Rattle.tables.specs.Tables.{lastRow, startingRow}

@@ -7,10 +7,11 @@ use mathlib.Core.Logic.{⊎-elim}
 use native.Mathlib.Omega.{arith}
 use borrow.Author.Needs.{needs}
 use denote.Ref.{now}
+use Rattle.kinds.specs.Steps.{stepsIn}
 use Rattle.forms.specs.declared.Form.the-variants.{ElseMarker, EndMarker}
 use Rattle.blocks.specs.declared.Walk.the-variants as walk
 use Rattle.blocks.specs.Blocks.{stands, blockBy, stepOf, blockOf}
-use Rattle.reading.specs.Found.{stepsIn, viewBy, Opens, lowered}
+use Rattle.reading.specs.Found.{viewBy, Opens, lowered}
 use Rattle.reading.proofs.Views.{view-beyond, stands-there, stands-below}
 use Rattle.reading.proofs.Lowered.{block-lowered}
 use Rattle.reading.proofs.Remaining.{opening, unclosed-stopped, left-none, left-unreadable, left-marker}

@@ -6,11 +6,12 @@ use mathlib.Core.Bool.{_&&_}
 use native.Mathlib.Omega.{arith}
 use borrow.Author.Needs.{needs}
 use denote.Ref.{now}
+use Rattle.kinds.specs.Steps.{stepsIn}
 use Rattle.forms.specs.declared.Form.the-variants.{ElseMarker, EndMarker}
 use Rattle.blocks.specs.declared.Walk.{Walk}
 use Rattle.blocks.specs.declared.Walk.the-variants as walk
 use Rattle.blocks.specs.Blocks.{View, stands, blockOf, stepOf, ifOf, whileOf}
-use Rattle.reading.specs.Found.{stepsIn, viewBy, lowered}
+use Rattle.reading.specs.Found.{viewBy, lowered}
 use Rattle.reading.proofs.Views.{stands-below}
 use Rattle.reading.proofs.Lowered.{lowered-below}
 use Rattle.reading.proofs.Steps.{is-if, too-deep, step-while, step-if, while-wrong, if-wrong}

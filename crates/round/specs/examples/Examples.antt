@@ -15,7 +15,7 @@ use Rattle.book.specs.Book.{stepsVerdict, routineWalk, nestingVerdict, pausingV
 use Rattle.book.specs.Written.{equal, rest, if, else, while, end, directory, oneRoutine}
 use Rattle.book.specs.Examples.{t3}
 use Rattle.game.specs.declared.Game.{Game}
-use Rattle.numbers.specs.Below.{allBelow, anyBelow, sumBelow}
+use Rattle.numbers.specs.Counting.{allBelow, anyBelow, sumBelow}
 use Rattle.lines.specs.Lines.{isIn, appended}
 use Rattle.game.specs.Game.{routineAt, blankGame, withStart}
 use Rattle.fitting.specs.Arrays.{entryFits, lineFits, countersFit, signalsFit}

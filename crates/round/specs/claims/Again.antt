@@ -3,15 +3,15 @@ use Prim.Native.Nat.{ℕ}
 use mathlib.Core.Path.{_≡_}
 use mathlib.Core.Bool.{true, false}
 use mathlib.Core.List.{List, [], _∷_, _++_}
+use Rattle.numbers.specs.Counting.{howMany}
 use Rattle.game.specs.declared.Game.{Game}
 use Rattle.game.specs.Game.{routineAt}
 use Rattle.round.specs.declared.Ending.the-variants.{Continued}
 use Rattle.round.specs.declared.Turn.the-variants.{Took}
 use Rattle.round.specs.State.{State, Thing, Happening, missing, isThere}
-use Rattle.round.specs.Counting.{howMany}
 use Rattle.round.specs.Actions.{positionOf, atStart}
 use Rattle.round.specs.Rounds.{allDone, again, listedIn, turn, pass}
-use Rattle.round.specs.Demand.{givesSignal, endsRoutine}
+use Rattle.round.specs.claims.Demand.{givesSignal, endsRoutine}
 
 module _ (book : List ℕ) where
   -- Rules 15, 26 and 31; "A join left waiting asks again at every try".

@@ -18,7 +18,7 @@ use Rattle.book.specs.Written.{equal, less, greater, mark, set, add, take, sign
 use Rattle.book.specs.Written.{joinFor, read, start, stop, suspend, resume, if, else, while, end, directory, book}
 use Rattle.game.specs.declared.Routine.{Routine}
 use Rattle.game.specs.declared.Game.{Game}
-use Rattle.numbers.specs.Below.{anyBelow, sumBelow}
+use Rattle.numbers.specs.Counting.{anyBelow, sumBelow}
 use Rattle.lines.specs.Lines.{isIn, appended}
 use Rattle.game.specs.Game.{notStarted, continuing, rested, ended, stopped, blank, blankGame, withStop, withSuspend, withResume, withStart}
 use Rattle.setup.specs.SetUp.{newGame, setUp}

@@ -7,17 +7,17 @@ use mathlib.Core.Bool.{Bool, true, false, _||_}
 use mathlib.Core.List.{List, _∷_, _++_}
 use mathlib.Core.Logic.{_⊎_}
 use lib.Dec.{eqb}
+use Rattle.numbers.specs.Counting.{countBelow, sumOver, howMany, Somewhere, Among}
 use Rattle.kinds.specs.Ops.{opSignal, opSignalNumber}
 use Rattle.kinds.specs.declared.Kind.the-variants as kind
 use Rattle.kinds.specs.declared.Step.{Step}
 use Rattle.kinds.specs.declared.Step.the-variants as step
 use Rattle.kinds.specs.Steps.{opAt}
-use Rattle.directory.specs.Directory.{routineSteps}
+use Rattle.directory.specs.Directory.{stepCount, routineSteps}
 use Rattle.game.specs.declared.Game.{Game}
 use Rattle.game.specs.Game.{routineAt}
 use Rattle.game.specs.Game as stage
 use Rattle.round.specs.State.{Thing, signal, end, number, Happening, gave, ended, missing, past, marked, completed}
-use Rattle.round.specs.Counting.{stepsIn, howMany, Somewhere, Among}
 use Rattle.round.specs.Actions.{atStart}
 use Rattle.round.specs.Rounds.{listedIn, historyOf}
 
@@ -28,6 +28,10 @@ isSignalOp op = eqb op opSignal || eqb op opSignalNumber
 -- the step of routine r at place p is one
 abbrev pub isSignalStep : List ℕ → ℕ → ℕ → Bool
 isSignalStep book r p = isSignalOp (opAt (routineSteps book r) p)
+
+-- how many steps of some routines of a book are in a set of steps, each a routine and a place
+abbrev pub countSteps : List ℕ → (ℕ → ℕ → Bool) → List ℕ → ℕ
+countSteps book set rs = sumOver (λ r. countBelow (set r) (stepCount book r)) rs
 
 -- "it gives a signal each time a pass carries it out, repeated ones too, and broadcasts and end signals don't count"
 abbrev pub givesSignal : Happening → Bool
@@ -82,7 +86,7 @@ pub record Demand3 (book : List ℕ) (lent : Game) (passes : ℕ) (back : Game) 
   -- passes ≤ 2 + signals given by steps + routines ended
   pub fewPasses : passes ≤ 2 + howMany givesSignal (historyOf book lent) + howMany endsRoutine (historyOf book lent)
   -- those signals ≤ the signal steps of the listed routines; "Listed, suspended: once the eight actions are done."
-  pub fewSignals : howMany givesSignal (historyOf book lent) ≤ stepsIn book (isSignalStep book) (listedIn lent)
+  pub fewSignals : howMany givesSignal (historyOf book lent) ≤ countSteps book (isSignalStep book) (listedIn lent)
   -- at its end every listed routine that isn't suspended has rested or ended; "rested or ended is stage 2 or 3 in the game given back"
   pub restedOrEnded :
       (r : ℕ) → Among r (listedIn lent) → routineAt (atStart lent .game) r .suspended ≡ false →

@@ -11,6 +11,7 @@ use mathlib.Core.List.{List, [], _∷_, _++_}
 use mathlib.Core.Logic.{_⊎_, _↔_}
 use lib.Dec.{eqb}
 use lib.ListN.{length}
+use Rattle.numbers.specs.Counting.{howMany, Somewhere, Among}
 use Rattle.kinds.specs.Ops.{opRest, opRestFor}
 use Rattle.kinds.specs.Steps.{opAt}
 use Rattle.forms.specs.Timed.{Timed}
@@ -24,13 +25,12 @@ use Rattle.round.specs.declared.Ending.the-variants.{Ended, Rested, Miss
 use Rattle.round.specs.declared.Turn.{Turn}
 use Rattle.round.specs.declared.Turn.the-variants.{PassedOver, Took}
 use Rattle.round.specs.State.{Thing, Happening, gave, ended, missing, past, marked, completed, isThere}
-use Rattle.round.specs.Counting.{howMany, Somewhere, Among}
 use Rattle.round.specs.Actions.{kept, positionOf, atStart}
 use Rattle.round.specs.Rounds.{listedIn, round, historyOf}
-use Rattle.round.specs.Demand.{isSignalStep, givesSignal, endsRoutine, AsksFor, Comes}
+use Rattle.round.specs.claims.Demand.{isSignalStep, givesSignal, endsRoutine, AsksFor, Comes}
 use Rattle.round.specs.Answers.{marksIn}
-use Rattle.round.specs.Completed.{completes, isMarkStep}
-use Rattle.round.specs.Replay.{leftBy, contentsAfter, placeAfter}
+use Rattle.round.specs.claims.Completed.{completes, isMarkStep}
+use Rattle.round.specs.claims.Replay.{leftBy, contentsAfter, placeAfter}
 
 -- a try finds its thing missing
 abbrev pub isMiss : Happening → Bool

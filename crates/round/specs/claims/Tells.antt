@@ -1,20 +1,30 @@
 -- Why a round is turned down, or not: the clauses of document 01 that decide it.
 use Prim.Native.Nat.{ℕ, suc, _<_, _≤_}
+use mathlib.Core.Path.{_≡_}
 use mathlib.Core.Bool.{Bool, false, not}
 use mathlib.Core.List.{List}
 use lib.Dec.{eqb}
 use lib.ListN.{length}
 use lib.IntN.{ℤ}
+use Rattle.numbers.specs.Counting.{howMany}
+use Rattle.kinds.specs.declared.Kind.the-variants.{Mark}
+use Rattle.kinds.specs.declared.Step.the-variants as step
+use Rattle.kinds.specs.Steps.{stepAt}
 use Rattle.verdicts.specs.declared.Verdict.{Verdict}
 use Rattle.verdicts.specs.Verdicts.{accepted, refused}
+use Rattle.layout.specs.Layout.{countsOf}
+use Rattle.book.specs.Book.{stepsPart}
 use Rattle.book.specs.Accepted.{Accepted}
 use Rattle.book.specs.Tells.{Tells}
 use Rattle.game.specs.declared.Game.{Game}
 use Rattle.fitting.specs.Fits.{Fits}
 use Rattle.round.specs.State.{Happening, gave, ended, missing, past, marked, completed}
-use Rattle.round.specs.Counting.{howMany}
 use Rattle.round.specs.Rounds.{round}
 use Rattle.round.specs.Answers.{spaceFor, mostNumbers}
+
+-- 10. "the book's mark steps": step i of a book is one
+abbrev pub MarkAt : List ℕ → ℕ → Type 0
+MarkAt book i = (n : ℤ) × (stepAt (countsOf book) (stepsPart book) i ≡ step.Kind (Mark n))
 
 -- 11. "More than 1,024 numbers are given in one round.": how many were given, among what happened; a signal may be given with none
 abbrev pub givesNumber : Happening → Bool

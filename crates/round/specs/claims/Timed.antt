@@ -4,6 +4,7 @@ use mathlib.Core.Path.{_≡_}
 use mathlib.Core.Bool.{Bool, true, false}
 use mathlib.Core.List.{List}
 use mathlib.Core.Logic.{_⊎_}
+use Rattle.numbers.specs.Counting.{Somewhere, Among}
 use Rattle.kinds.specs.declared.Step.{Step}
 use Rattle.kinds.specs.Steps.{stepAt}
 use Rattle.forms.specs.Timed.{Timed, restFor, waitFor, joinFor}
@@ -17,7 +18,6 @@ use Rattle.round.specs.declared.Position.{Position}
 use Rattle.round.specs.declared.Effect.the-variants.{Nothing}
 use Rattle.round.specs.declared.Act.the-variants.{Goes, Halts}
 use Rattle.round.specs.State.{State, signal, end, completed, isThere}
-use Rattle.round.specs.Counting.{Somewhere, Among}
 use Rattle.round.specs.Actions.{positionOf, atStart}
 use Rattle.round.specs.Ticks.{begunAt, countAt, tickAt}
 use Rattle.round.specs.Rounds.{stageAfter, listedIn, round, historyOf}

@@ -1,0 +1,10 @@
+-- What is claimed of rounds. What a round is stands in the modules beside this one.
+pub mod Sound
+pub mod Enough
+pub mod Tells
+pub mod Timed
+pub mod Demand
+pub mod Completed
+pub mod Replay
+pub mod Whole
+pub mod Again

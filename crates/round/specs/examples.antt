@@ -1,0 +1,3 @@
+-- Rounds by evaluation.
+pub mod Examples
+pub mod Ops
