@@ -21,12 +21,10 @@ use Rattle.round.specs.Rounds.{round}
 use Rattle.round.specs.Answers.{Answer, spaceFor, roundVerdict, turnedDown, playedOut, answer}
 use Rattle.round.specs.claims.Tells.{RoundTells}
 use Rattle.round.specs.claims.Demand.{Demand3}
-use Rattle.round.proofs.Telling.{round-told-only, turned-down, played-out, answer-verdict, accepted-played}
+use Rattle.round.proofs.Telling.{round-told-only, turned-down, played-out, answer-verdict}
 use Rattle.round.proofs.Demand.{round-accepted, answer-demand-3}
-use Rattle.round.proofs.After.{answer-fits}
-use Rattle.rules.specs.Claims.{ByTheRules, threadsOf}
+use Rattle.rules.specs.Claims.{ByTheRules}
 use Rattle.rules.proofs.Adequacy.{round-by-the-rules}
-use Rattle.playing.specs.Playing.{GivenByRules}
 
 module _ (book : List ℕ) (g : Game) (buffer : List ℤ) where
   module _ (v : Verdict) where
@@ -63,17 +61,7 @@ module _ (book : List ℕ) (g : Game) (buffer : List ℤ) where
   Promised r =
       (r ≡ answer book g buffer)
       × ((r .verdict ≡ accepted → Demand3 book g (r .passes) (r .game))
-      × ((r .verdict ≡ accepted → Fits book (r .game))
-      × (r .verdict ≡ accepted → GivenByRules book g buffer r)))
-
-  by-the-rules : answer book g buffer .verdict ≡ accepted → GivenByRules book g buffer (answer book g buffer)
-  by-the-rules h =
-      let a = accepted-played book g buffer h .0 .0 in (
-        a,
-        λ s e.
-            subst (λ (x : Game). ByTheRules book a (threadsOf book a x) s buffer (answer book x buffer)) e
-            (round-by-the-rules book a s buffer (rw e h)),
-      )
+      × (r .verdict ≡ accepted → ByTheRules book g buffer r))
 
   pub promised : {r : Answer} → r ≡ answer book g buffer → Promised r
-  promised {r} e = subst Promised (sym e) (refl, (answer-demand-3 book g buffer, (answer-fits book g buffer, by-the-rules)))
+  promised {r} e = subst Promised (sym e) (refl, (answer-demand-3 book g buffer, round-by-the-rules book g buffer))

@@ -5,13 +5,10 @@ use mathlib.Core.Bool.{Bool}
 use mathlib.Core.List.{List}
 use lib.ListN.{length}
 use lib.IntN.{ℤ}
-use Rattle.book.specs.Accepted.{Accepted}
 use Rattle.game.specs.declared.Game.{Game}
-use Rattle.round.specs.State.{State}
 use Rattle.round.specs.Actions.{atStart}
 use Rattle.round.specs.Rounds.{round}
 use Rattle.round.specs.Answers.{Answer}
-use Rattle.rules.specs.Claims.{ByTheRules, threadsOf}
 use Rattle.tables.specs.declared.Tally.{Tally}
 use Rattle.tables.specs.Tables.{fieldCount, stateOf}
 use Rattle.passing.specs.Effects.{marksOf}
@@ -33,8 +30,3 @@ pub record Done
 -- the answer of the call, with the buffer that it leaves
 abbrev pub answered : Played → List ℤ → Answer
 answered p buffer = record { verdict = p .verdict; game = p .game; passes = p .passes; marks = p .marks; buffer = buffer }
-
--- an answer is what the rules give, and no other: from the game's own threads, whatever signals, numbers and flags an earlier round left
--- beside the game
-abbrev pub GivenByRules : List ℕ → Game → List ℤ → Answer → Type 0
-GivenByRules book g buffer r = (a : Accepted book) × ((s : State) → s .game ≡ g → ByTheRules book a (threadsOf book a g) s buffer r)

@@ -37,8 +37,9 @@ ghost use Rattle.round.specs.Rounds as rounds;
 ghost use Rattle.round.specs.Answers as answers;
 ghost use Rattle.round.specs.claims.Demand.{Demand3};
 ghost use Rattle.game.specs.declared.Game.{Game};
+ghost use Rattle.rules.specs.Claims.{ByTheRules};
 ghost use Rattle.opening.specs.Games.{noTally, Opened};
-ghost use Rattle.playing.specs.Playing.{Done, answered, GivenByRules};
+ghost use Rattle.playing.specs.Playing.{Done, answered};
 
 // "0 mark"
 const OP_MARK: u8 = 0;
@@ -189,9 +190,8 @@ fn turned_down(verdict: Verdict, game: Game) -> Played
 pub fn play(book: &[u8], game: Game, marks: &mut [i32]) -> Played
     ensures { λ r. ⌜ answered r (now (marks .exit)) ≡ answers.answer (now (book .entry)) game (now (marks .entry)) ⌝ }
     ensures { λ r. ⌜ (r .verdict ≡ accepted → Demand3 (now (book .entry)) game (r .passes) (r .game)) ⌝ }
-    ensures { λ r. ⌜ (r .verdict ≡ accepted → Fits (now (book .entry)) (r .game)) ⌝ }
     ensures { λ r. ⌜ (r .verdict ≡ accepted →
-        GivenByRules (now (book .entry)) game (now (marks .entry)) (answered r (now (marks .exit)))) ⌝ }
+        ByTheRules (now (book .entry)) game (now (marks .entry)) (answered r (now (marks .exit)))) ⌝ }
 {
     let verdict = verdict_of(read_book(book));
     if verdict.number != 0 {

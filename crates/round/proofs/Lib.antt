@@ -67,6 +67,7 @@ pub mod TrueHistory
 pub mod Replays
 pub mod FirstTurn
 pub mod Untold
+pub mod Leaving
 pub mod Places
 pub mod Ways
 pub mod Whole

@@ -1,15 +1,12 @@
 -- Each step does what its fields say when what is told is carried out again: by the rows of the table of kinds, it changes the counters and
--- numbers so and leads on so, or it halts the turn and leaves its routine so. Hence the counters and numbers at a round's end are what the
--- steps told as completed make of the counters before it.
+-- numbers so and leads on so, or it halts the turn and changes neither. Hence the counters and numbers at a round's end are what the steps
+-- told as completed make of the counters before it.
 use Prim.Native.Nat.{ℕ}
 use mathlib.Core.Path.{_≡_, refl, sym, subst, ap, _∙_}
 use mathlib.Core.Bool.{_&&_, not}
 use mathlib.Core.List.{List, [], _∷_, _++_}
-use mathlib.Core.Logic.{_⊎_, inl, inr}
-use native.Mathlib.Omega.{arith}
 use lib.Dec.{eqb}
 use lib.IntN.{ℤ}
-use Rattle.kinds.specs.Ops.{opRest, opRestFor}
 use Rattle.numbers.specs.Numbers.{countOf}
 use Rattle.kinds.specs.declared.Kind.{Kind}
 use Rattle.kinds.specs.declared.Step.{Step}
@@ -20,8 +17,6 @@ use Rattle.layout.specs.Layout.{countsOf}
 use Rattle.directory.specs.Directory.{routineSteps}
 use Rattle.game.specs.declared.Game.{Game}
 use Rattle.numbers.proofs.Tests.{by-test}
-use Rattle.round.specs.declared.Ending.{Ending}
-use Rattle.round.specs.declared.Ending.the-variants.{Ended, Rested, Missed, Continued}
 use Rattle.round.specs.declared.Position.{Position}
 use Rattle.round.specs.declared.Effect.{Effect}
 use Rattle.round.specs.declared.Effect.the-variants.{Nothing, Put}
@@ -30,11 +25,9 @@ use Rattle.round.specs.declared.Act.the-variants.{Goes, Halts}
 use Rattle.round.specs.State.{State, Thing, signal, end, number, Happening, missing, past, completed}
 use Rattle.round.specs.State.{numberAt, isThere}
 use Rattle.round.specs.Actions.{atStart}
-use Rattle.round.specs.Jumps.{sizeOf}
-use Rattle.round.specs.Ticks.{Tick, telling, fresh, countAt, onward, tries, waitsFor, tickOf, quits, tickAt, tick}
-use Rattle.round.specs.Ticks.{effectOn}
+use Rattle.round.specs.Ticks.{Tick, countAt, onward, tries, waitsFor, tickOf, tickAt, tick, effectOn}
 use Rattle.round.specs.Rounds.{ticks, ticksOf, turn, round, historyOf}
-use Rattle.round.specs.claims.Replay.{Contents, madeBy, leadsTo, leftBy, atStep, madeOf, contentsAfter}
+use Rattle.round.specs.claims.Replay.{Contents, madeBy, leadsTo, atStep, madeOf, contentsAfter}
 use Rattle.round.proofs.Stepping.{ticks-by}
 use Rattle.round.proofs.Along.{round-always}
 use Rattle.round.proofs.AfterTurn.{end-keeps, turn-by}
@@ -67,37 +60,27 @@ module _ (book : List ℕ) where
 
     -- a step with these fields
     module _ (op a b : ℕ) (n : ℤ) where
-      -- where one that halts the turn leaves its routine; none of them ends it
-      abbrev LeavesAt : Ending → Position → Type 0
-      LeavesAt Ended y = ⊥
-      LeavesAt Rested y = ((op ≡ opRest) ⊎ (op ≡ opRestFor)) × (y .place ≡ leftBy op (x .place))
-      LeavesAt Missed y = y .place ≡ leftBy op (x .place)
-      LeavesAt Continued y = y .place ≡ x .place
-
       -- one that goes on changes the contents, and leads on, as its fields say; one that halts the turn changes nothing
       abbrev Agrees : Act → List Happening → Type 0
       Agrees (Goes q e) told =
           (q ≡ leadsTo steps (x .place) op a b n (s .game .counters)) ×
           (contentsOf (effectOn e s) ≡ contentsAfter book told (madeBy op a b n (contentsOf s)))
-      Agrees (Halts how y) told = LeavesAt how y × Makes s told s
+      Agrees (Halts how y) told = Makes s told s
 
       abbrev TickAgrees : Tick → Type 0
       TickAgrees t = Agrees (t .act) (t .told)
 
       tries-agrees :
           (t : Thing) (e : Effect) (y : Position) → Agrees (onward r steps x s e) (past r (x .place) t ∷ []) →
-          y .place ≡ leftBy op (x .place) → TickAgrees (tries r steps x s t e y)
+          TickAgrees (tries r steps x s t e y)
       unfolding contentsAfter
-      tries-agrees t e y h left =
+      tries-agrees t e y h =
           by-test TickAgrees (isThere s t) (λ there. h)
-          (λ none.
-          by-test (λ act. Agrees act (missing r (x .place) t ∷ [])) (s .eoi) (λ closing. (left, refl)) (λ going. (refl, refl)))
+          (λ none. by-test (λ act. Agrees act (missing r (x .place) t ∷ [])) (s .eoi) (λ closing. refl) (λ going. refl))
 
-      waits-agrees :
-          (t : Thing) (k : ℕ) → Agrees (onward r steps x s Nothing) [] → x .place ≡ leftBy op (x .place) →
-          TickAgrees (waitsFor r steps x s t k)
+      waits-agrees : (t : Thing) (k : ℕ) → Agrees (onward r steps x s Nothing) [] → TickAgrees (waitsFor r steps x s t k)
       unfolding waitsFor contentsAfter
-      waits-agrees t k h left = by-test TickAgrees (eqb k 0 && not (isThere s t)) (λ over. h) (λ some. tries-agrees t Nothing _ h left)
+      waits-agrees t k h = by-test TickAgrees (eqb k 0 && not (isThere s t)) (λ over. h) (λ some. tries-agrees t Nothing _ h)
 
     -- each row of the table: its op with the fields a, b and n
     table-agrees :
@@ -110,14 +93,13 @@ module _ (book : List ℕ) where
         and (refl, refl)
         and (refl, refl)
         and (refl, refl)
-        and ((inl refl, refl), refl)
-        and by-test (λ act. Agrees 7 a b n act []) (eqb (countAt x (countOf n)) 0) (λ over. (refl, refl))
-        (λ some. ((inr refl, refl), refl))
-        and tries-agrees 8 a b n (signal a) Nothing (fresh (x .place)) (refl, refl) refl
-        and waits-agrees 9 a b n (signal a) (countAt x (countOf n)) (refl, refl) refl
-        and tries-agrees 10 a b n (end a) Nothing (fresh (x .place)) (refl, refl) refl
-        and waits-agrees 11 a b n (end a) (countAt x (countOf n)) (refl, refl) refl
-        and tries-agrees 12 a b n (number a (countOf n)) (Put b (numberAt s a (countOf n))) _ (refl, refl) refl
+        and refl
+        and by-test (λ act. Agrees 7 a b n act []) (eqb (countAt x (countOf n)) 0) (λ over. (refl, refl)) (λ some. refl)
+        and tries-agrees 8 a b n (signal a) Nothing _ (refl, refl)
+        and waits-agrees 9 a b n (signal a) (countAt x (countOf n)) (refl, refl)
+        and tries-agrees 10 a b n (end a) Nothing _ (refl, refl)
+        and waits-agrees 11 a b n (end a) (countAt x (countOf n)) (refl, refl)
+        and tries-agrees 12 a b n (number a (countOf n)) (Put b (numberAt s a (countOf n))) _ (refl, refl)
         and (refl, refl)
         and (refl, refl)
         and (refl, refl)
@@ -129,50 +111,20 @@ module _ (book : List ℕ) where
         and tt
 
     -- what the step there comes to, or the routine's end where none stands
-    abbrev StepAgrees : Step → Tick → Type 0
-    StepAgrees (step.Kind k) t = atStep TickAgrees steps (x .place) t
-    StepAgrees step.Refused t = (t .act ≡ quits r steps x s .act) × (t .told ≡ quits r steps x s .told)
-
     step-agrees :
-        (st : Step) → stepAt (countsOf book) steps (x .place) ≡ st → StepAgrees st (tickAt r steps x s st)
+        (st : Step) → stepAt (countsOf book) steps (x .place) ≡ st → atStep TickAgrees steps (x .place) (tickAt r steps x s st)
+    unfolding contentsAfter
     step-agrees (step.Kind k) e =
         let p = x .place in
         let a = fieldA steps p in
         let b = fieldB steps p in
         let n = fieldN steps p in
         kind-holds (λ op (k : Kind). TickAgrees op a b n (tickOf r steps x s k)) (countsOf book) steps p (table-agrees a b n) e
-    step-agrees step.Refused e = (refl, refl)
+    step-agrees step.Refused e = refl
 
-    abbrev here : Step
-    here = stepAt (countsOf book) steps (x .place)
-
-    tick-agrees : {t : Tick} → tick (countsOf book) r steps x s ≡ t → StepAgrees here t
+    pub tick-agrees : {t : Tick} → tick (countsOf book) r steps x s ≡ t → atStep TickAgrees steps (x .place) t
     unfolding tick
-    tick-agrees same = subst (StepAgrees here) same (step-agrees here refl)
-
-    pub goes-agrees :
-        {q : ℕ} {e : Effect} {told : List Happening} → tick (countsOf book) r steps x s ≡ telling (Goes q e) told →
-        atStep Agrees steps (x .place) (Goes q e) told
-    goes-agrees {q} {e} {told} same = by here (tick-agrees same)
-      where
-        by : (st : Step) → StepAgrees st (telling (Goes q e) told) → atStep Agrees steps (x .place) (Goes q e) told
-        by (step.Kind k) h = h
-        by step.Refused (h, k) = let z : _≡_ {A = ℕ} 0 1 = cc in absurd (omega arith)
-
-    -- where the turn halts: at a step that leaves its routine so, or at the routine's end
-    abbrev pub HaltsAt : Step → Ending → Position → Type 0
-    HaltsAt (step.Kind k) how y = atStep LeavesAt steps (x .place) how y
-    HaltsAt step.Refused how y = (how ≡ Ended) × (y ≡ fresh (sizeOf steps))
-
-    pub halts-agrees :
-        {how : Ending} {y : Position} {told : List Happening} → tick (countsOf book) r steps x s ≡ telling (Halts how y) told →
-        HaltsAt here how y × Makes s told s
-    unfolding contentsAfter
-    halts-agrees {how} {y} {told} same = by here (tick-agrees same)
-      where
-        by : (st : Step) → StepAgrees st (telling (Halts how y) told) → HaltsAt st how y × Makes s told s
-        by (step.Kind k) h = h
-        by step.Refused (h, k) = ((cc, cc), subst (λ (l : List Happening). Makes s l s) (sym k) refl)
+    tick-agrees same = subst (atStep TickAgrees steps (x .place)) same (step-agrees (stepAt (countsOf book) steps (x .place)) refl)
 
   ticks-make :
       (r n : ℕ) (x : Position) (s : State) →
@@ -182,8 +134,8 @@ module _ (book : List ℕ) where
   ticks-make r =
       ticks-by (countsOf book) r (routineSteps book r) (λ x s t. Makes s (t .told) (t .state))
       (λ x s q e told t same leaves right says rest.
-      makes-both s (effectOn e s) (t .state) (completed r (x .place) ∷ told) (t .told) (goes-agrees r x s same .1) rest)
-      (λ x s how y told same stays stops. halts-agrees r x s same .1) (λ x s. makes-same s)
+      makes-both s (effectOn e s) (t .state) (completed r (x .place) ∷ told) (t .told) (tick-agrees r x s same .1) rest)
+      (λ x s how y told same stays stops. tick-agrees r x s same) (λ x s. makes-same s)
 
   pub turn-makes : (r : ℕ) (s : State) → Makes s (turn book r s .told) (turn book r s .state)
   turn-makes r s =

@@ -15,8 +15,7 @@ use Rattle.orders.proofs.Stores.{map-set, same-at}
 use Rattle.round.specs.Actions.{kept, each, inStage1, inStage4, withoutOrders}
 use Rattle.round.proofs.Actions.{each-keeps, startsOf, joinedOf, first, leaving, staying, halted, last, field-same}
 use Rattle.round.proofs.Actions as action
-use Rattle.rules.specs.Instructions.{CONT}
-use Rattle.rules.specs.Schedulers.{Stage, notStarted, is, stopped, has}
+use Rattle.rules.specs.Schedulers.{Stage, notStarted, continuing, stopped, has}
 use Rattle.rules.specs.Instants.{only, allAt, isUnderWay, isTerminated, noFlags}
 use Rattle.rules.proofs.Stages.{seen, terminated-stage, under-way-stage}
 
@@ -82,7 +81,7 @@ module _ (g : Game) where
   toStop = map (λ x. x .stopping) (g .routines)
 
   abbrev status₁ : List Stage
-  status₁ = allAt (is CONT) (startsOf g) (map seen (g .routines))
+  status₁ = allAt continuing (startsOf g) (map seen (g .routines))
 
   abbrev stops : ℕ → Bool
   stops t = has toStop t && isUnderWay (getD status₁ t notStarted)
@@ -97,7 +96,7 @@ module _ (g : Game) where
   actual₆ rs = only (stays rs) (only (λ t. not (has toStop t)) rs)
 
   started-status : map seen (first g) ≡ status₁
-  started-status = each-at (is CONT) inStage1 (λ x. refl) (startsOf g) (g .routines)
+  started-status = each-at continuing inStage1 (λ x. refl) (startsOf g) (g .routines)
 
   started-at : (t : ℕ) → seen (getD (first g) t blank) ≡ getD status₁ t notStarted
   started-at t = sym (List·getD-map seen (first g) t blank) ∙ ap (λ l. getD l t notStarted) started-status
@@ -133,12 +132,12 @@ module _ (g : Game) where
       kept-only (action.stays g) (λ t. not (has toStop t) && stays rs t) agree rs ∙
       sym (only-twice (stays rs) (λ t. not (has toStop t)) rs)
 
-  pub status-same : map seen (map withoutOrders (last g)) ≡ allAt (is CONT) (actual₆ (joinedOf g)) (status₃ (joinedOf g))
+  pub status-same : map seen (map withoutOrders (last g)) ≡ allAt continuing (actual₆ (joinedOf g)) (status₃ (joinedOf g))
   status-same =
       map-map seen withoutOrders (last g) ∙
-      each-at (is CONT) inStage1 (λ x. refl) (staying g) (halted g) ∙
-      ap (allAt (is CONT) (staying g)) (each-at stopped inStage4 (λ x. refl) (leaving g) (first g)) ∙
-      (λ i. allAt (is CONT) (order-same i) (allAt stopped (stopping-same i) (started-status i)))
+      each-at continuing inStage1 (λ x. refl) (staying g) (halted g) ∙
+      ap (allAt continuing (staying g)) (each-at stopped inStage4 (λ x. refl) (leaving g) (first g)) ∙
+      (λ i. allAt continuing (order-same i) (allAt stopped (stopping-same i) (started-status i)))
 
   -- a flag of one of the three sets
   pub flag-cleared :

@@ -109,12 +109,12 @@ module _ (counts : Counts) (r : ℕ) (steps : List ℕ) (few : counts .routines 
           {n : ℕ} {i : Instruction} {s : State} {ms : Marks} →
           StepEnds i (leftOfStep r stepOf a) p q n s ms → BlockEnds (more a b) (i then ofBlock r stepOf b) n s ms
       first-ends (stops run on w l m) =
-          within (rule4 run on) on (rw (more-first r stepOf a b y m) (first w)) l (omega (arith, block-goes at 0 b))
+          within (rule4 run (on .0)) on (rw (more-first r stepOf a b y m) (first w)) l (omega (arith, block-goes at 0 b))
       first-ends (rests run on w m) =
           let l : y .place ≡ q = ap (λ (z : Position). z .place) m in
           let left : leftOfBlock r stepOf (more a b) y ≡ ofBlock r stepOf b =
           more-behind r stepOf a b y (omega arith) ∙ ap (leftOfBlock r stepOf b) m ∙ block-start r stepOf b in
-          within (rule4 run on) on (rw left (drop w same)) (omega (arith, step-goes at 0 a)) (omega (arith, block-goes at 0 b))
+          within (rule4 run (on .0)) on (rw left (drop w same)) (omega (arith, step-goes at 0 a)) (omega (arith, block-goes at 0 b))
       first-ends (over m v vs run l t) =
           block-as (λ α j w ws next. rule3 run next) (more-behind r stepOf a b) (omega (arith, step-goes at 0 a)) (omega arith)
           (from-start b B t)
@@ -256,7 +256,7 @@ module _ (counts : Counts) (r : ℕ) (steps : List ℕ) (few : counts .routines 
             ((m : ℕ) (v : State) (vs : Marks) → m < n → Turn m (fresh p) v vs → FromTest m v vs) → BlockEnds b i n s ms →
             StepEnds (whileInst (testOf (stepOf p)) i (ofBlock r stepOf b)) (leftOfStep r stepOf (loop o b k)) p (suc q) n s ms
         in-body again (within run on w l m) =
-            stops (rule8 run on) on (rw (loop-in r stepOf o b k y l) (body w)) (omega arith) (omega arith)
+            stops (rule8 run (on .0)) on (rw (loop-in r stepOf o b k y l) (body w)) (omega arith) (omega arith)
         in-body again (passes n x v vs run l m t) =
             let next = onward t (end-leads x v m k (from-while counts steps o b)) in
             step-as (λ α i w ws rest. rule7 run rest) (omega (arith, next .1)) (again (next .0) v vs (omega (arith, next .1)) (next .2))

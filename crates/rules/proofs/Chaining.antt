@@ -12,8 +12,7 @@ use Rattle.round.specs.State.{State}
 use Rattle.round.specs.Actions.{atStart}
 use Rattle.round.proofs.Listing.{joined-entries}
 use Rattle.round.proofs.Actions.{at-start-entries}
-use Rattle.rules.specs.Instructions.{CONT}
-use Rattle.rules.specs.Schedulers.{is}
+use Rattle.rules.specs.Schedulers.{continuing}
 use Rattle.rules.specs.Instants.{allAt, chained, unmoved}
 use Rattle.rules.specs.View.{view}
 use Rattle.rules.proofs.Actions.{status₃, actual₆, order-same, status-same, flag-cleared, suspended-same, ends-same}
@@ -30,7 +29,7 @@ chains book s ms range f =
     let g = s .game in
     let joined = sym (joined-entries book g range f) in
     let actual = ap (actual₆ g) joined ∙ sym (order-same g) ∙ sym (at-start-entries book g range f) in
-    let status = ap (λ rs. allAt (is CONT) (actual₆ g rs) (status₃ g rs)) joined ∙ sym (status-same g) in
+    let status = ap (λ rs. allAt continuing (actual₆ g rs) (status₃ g rs)) joined ∙ sym (status-same g) in
     let broadcast = none-same false (g .broadcast) ∙ ap (λ n. replicate n false) (f .sized .broadcast) in
     λ i.
     record {

@@ -1,10 +1,8 @@
--- The rules derive nothing else: from one start, two derivations by rules 1 to 32 have the same status, instruction left and scheduler, a
--- thread or an execution step by rules 33 to 36 the same Boolean and end, and two instants by rules 37 and 38 as many execution steps and
--- one end. By induction over both derivations, from starts that are equal: where two rules are for one instruction, their conditions
--- exclude each other, or they agree.
+-- The rules derive nothing else: from one start, two derivations by rules 1 to 32 have the same status, instruction left and scheduler, and
+-- a thread, an execution step or an instant by rules 33 to 38 the same log and end. By induction over both derivations, from starts that are
+-- equal: where two rules are for one instruction, their conditions exclude each other, or they agree.
 use Prim.Native.Nat.{ℕ, _≤_}
 use mathlib.Core.Path.{_≡_, refl}
-use mathlib.Core.Bool.{Bool}
 use mathlib.Core.List.{List, _∷_}
 use mathlib.Core.Logic.{inl, inr}
 use native.Mathlib.Omega.{arith}
@@ -14,17 +12,18 @@ use Rattle.rules.specs.Schedulers.{Scheduler, Called, writes, becomes, a
 use Rattle.rules.specs.Rules.{⟨_&_⟩⟶[_]⟨_&_⟩, rule1, rule2, rule3, rule4, rule5, rule6, rule7, rule8, rule9, rule10, rule11, rule12}
 use Rattle.rules.specs.Rules.{rule13, rule14, rule15, rule16, rule17, rule18, rule18-again, rule19, rule20, rule21, rule22, rule23}
 use Rattle.rules.specs.Rules.{rule24, rule25, rule26, rule27, rule28, rule29, rule29-again, rule30, rule31, rule32}
-use Rattle.rules.specs.Instants.{Thread, rule33, rule34, InTurn, none, next, ExecutionStep, rule35, rule36, Instant, rule37, rule38}
+use Rattle.rules.specs.Instants.{Execution, Thread, rule33, rule34, StepLog, InTurn, none, next, ExecutionStep, rule35, rule36, Log}
+use Rattle.rules.specs.Instants.{Instant, rule37, rule38}
 use Rattle.rules.proofs.Naming.{given}
 
--- what a derivation comes to, as one value: a status, a Boolean or a number; the instructions left; the scheduler
+-- what a derivation comes to, as one value: what is above the arrow, the instructions left, the scheduler
 data Result (A B : Type 0) : Type 0 where
   gives : A → B → Scheduler → Result A B
 
 -- a wait with no instant left terminates
 expired :
-    {e : Event} {k : ℕ} {i : Instruction} {σ τ : Scheduler} {α : Status} →
-    ⟨ awaitN e k & σ ⟩⟶[ α ]⟨ i & τ ⟩ → k ≤ 0 →
+    {p k : ℕ} {e : Event} {i : Instruction} {σ τ : Scheduler} {α : Status} →
+    ⟨ awaitN p e k & σ ⟩⟶[ α ]⟨ i & τ ⟩ → k ≤ 0 →
     α ≡ TERM
 expired (rule25 x) h = refl
 expired (rule26 x u v) h = absurd (omega arith)
@@ -129,7 +128,7 @@ pub determined :
 determined a b = let h = same-result a b refl in (cc, cc, cc)
 
 same-thread :
-    {t : ℕ} {run run′ other other′ : ℕ → Instruction} {σ τ υ ω : Scheduler} {b c : Bool} →
+    {t : ℕ} {run run′ other other′ : ℕ → Instruction} {σ τ υ ω : Scheduler} {b c : Execution} →
     Thread t run σ b run′ τ → Thread t other υ c other′ ω → run ≡ other → σ ≡ υ →
     gives b run′ τ ≡ gives c other′ ω
 same-thread (rule33 x) (rule33 y) f e = cc
@@ -140,20 +139,20 @@ same-thread (rule34 x u a) (rule33 (inr y)) f e = absurd (y (cc))
 same-thread (rule34 x u a) (rule34 y w b) f e = given (same-result a (rw (← f) at b) e) (λ h. cc)
 
 pub thread-determined :
-    {t : ℕ} {run run′ run″ : ℕ → Instruction} {σ τ υ : Scheduler} {b c : Bool} →
+    {t : ℕ} {run run′ run″ : ℕ → Instruction} {σ τ υ : Scheduler} {b c : Execution} →
     Thread t run σ b run′ τ → Thread t run σ c run″ υ →
     (b ≡ c) × (run′ ≡ run″) × (τ ≡ υ)
 thread-determined a b = let h = same-thread a b refl refl in (cc, cc, cc)
 
 same-turns :
-    {ts : List ℕ} {run run′ other other′ : ℕ → Instruction} {σ τ υ ω : Scheduler} {b c : Bool} →
+    {ts : List ℕ} {run run′ other other′ : ℕ → Instruction} {σ τ υ ω : Scheduler} {b c : StepLog} →
     InTurn ts run σ b run′ τ → InTurn ts other υ c other′ ω → run ≡ other → σ ≡ υ →
     gives b run′ τ ≡ gives c other′ ω
 same-turns none none f e = cc
 same-turns (next a c) (next b d) f e = given (same-thread a b f e) (λ h. given (same-turns c d (cc) (cc)) (λ g. cc))
 
 same-step :
-    {run run′ other other′ : ℕ → Instruction} {σ τ υ ω : Scheduler} {b c : Bool} →
+    {run run′ other other′ : ℕ → Instruction} {σ τ υ ω : Scheduler} {b c : StepLog} →
     ExecutionStep run σ b run′ τ → ExecutionStep other υ c other′ ω → run ≡ other → σ ≡ υ →
     gives b run′ τ ≡ gives c other′ ω
 same-step (rule35 x) (rule35 y) f e = cc
@@ -162,22 +161,22 @@ same-step (rule36 x a) (rule35 y) f e = cc
 same-step (rule36 {t} {ts} x a) (rule36 {t = u} {ts = us} y b) f e = let h : t ∷ ts ≡ u ∷ us = cc in same-turns a (rw h b) f e
 
 pub step-determined :
-    {run run′ run″ : ℕ → Instruction} {σ τ υ : Scheduler} {b c : Bool} →
+    {run run′ run″ : ℕ → Instruction} {σ τ υ : Scheduler} {b c : StepLog} →
     ExecutionStep run σ b run′ τ → ExecutionStep run σ c run″ υ →
     (b ≡ c) × (run′ ≡ run″) × (τ ≡ υ)
 step-determined a b = let h = same-step a b refl refl in (cc, cc, cc)
 
 same-instant :
-    {n m : ℕ} {run run′ other other′ : ℕ → Instruction} {σ τ υ ω : Scheduler} →
+    {n m : Log} {run run′ other other′ : ℕ → Instruction} {σ τ υ ω : Scheduler} →
     Instant n run σ run′ τ → Instant m other υ other′ ω → run ≡ other → σ ≡ υ →
     gives n run′ τ ≡ gives m other′ ω
-same-instant (rule37 a) (rule37 b) f e = given (same-step a b f e) (λ h. cc)
-same-instant (rule37 a) (rule38 b d) f e = given (same-step a b f e) (λ h. cc)
-same-instant (rule38 a c) (rule37 b) f e = given (same-step a b f e) (λ h. cc)
-same-instant (rule38 a c) (rule38 b d) f e = given (same-step a b f e) (λ h. given (same-instant c d (cc) (cc)) (λ g. cc))
+same-instant (rule37 a x) (rule37 b y) f e = given (same-step a b f e) (λ h. cc)
+same-instant (rule37 a x) (rule38 b y d) f e = given (same-step a b f e) (λ h. cc)
+same-instant (rule38 a x c) (rule37 b y) f e = given (same-step a b f e) (λ h. cc)
+same-instant (rule38 a x c) (rule38 b y d) f e = given (same-step a b f e) (λ h. given (same-instant c d (cc) (cc)) (λ g. cc))
 
 pub instant-determined :
-    {n m : ℕ} {run run′ run″ : ℕ → Instruction} {σ τ υ : Scheduler} →
+    {n m : Log} {run run′ run″ : ℕ → Instruction} {σ τ υ : Scheduler} →
     Instant n run σ run′ τ → Instant m run σ run″ υ →
     (n ≡ m) × (run′ ≡ run″) × (τ ≡ υ)
 instant-determined a b = let h = same-instant a b refl refl in (cc, cc, cc)

@@ -4,7 +4,7 @@ use Prim.Native.Nat.{ℕ, suc, _+_, _-_, _<_, _≤_}
 use mathlib.Core.Path.{_≡_, refl, sym, ap, _∙_}
 use mathlib.Core.Bool.{true, false, _&&_, not, and-true}
 use mathlib.Core.List.{List, [], _++_, append-nil}
-use mathlib.Core.Logic.{_≢_, _⊎_, inl, inr}
+use mathlib.Core.Logic.{_⊎_, inl, inr}
 use native.Mathlib.Omega.{arith}
 use native.Mathlib.Decide.{decLe}
 use native.Mathlib.Numerals.{add-one}
@@ -32,18 +32,20 @@ use Rattle.round.specs.declared.Effect.the-variants.{Nothing, Put, Add, Give, G
 use Rattle.round.specs.declared.Act.{Act}
 use Rattle.round.specs.declared.Act.the-variants.{Goes, Halts}
 use Rattle.round.specs.State.{State, Thing, signal, end, number, numberAt, isThere}
+use Rattle.round.specs.Jumps.{sizeOf}
 use Rattle.round.specs.Ticks.{Tick, telling, fresh, begunAt, countAt, onward, tries, restsFor, waitsFor, reads, tickOf, effectOn}
 use Rattle.round.specs.Answers.{marksIn}
 use Rattle.round.proofs.Leads.{formAt}
 use Rattle.round.proofs.Forms.{leaf-there}
 use Rattle.round.proofs.Fields.{FieldsRight, fields-right}
-use Rattle.rules.specs.Instructions.{TERM, nothing}
+use Rattle.rules.specs.Instructions.{Pause, misses, missesFor, unread, Status, TERM, nothing}
 use Rattle.rules.specs.Schedulers.{Scheduler, writes, becomes, adds, takes, returned}
 use Rattle.rules.specs.Rules.{⟨_&_⟩⟶[_]⟨_&_⟩, rule1, rule11, rule12, rule13, rule19, rule20, rule21, rule22, rule23, rule24, rule25}
 use Rattle.rules.specs.Rules.{rule28, rule30, rule31, rule32}
 use Rattle.rules.specs.Residual.{instruction}
+use Rattle.rules.specs.Positions.{pausedAt}
 use Rattle.rules.specs.View.{view}
-use Rattle.rules.proofs.Walks.{Marks, HasRoom, statusAfter}
+use Rattle.rules.proofs.Walks.{Marks, HasRoom, HaltsAs, restsAs, missesAs, continuesAs}
 use Rattle.rules.proofs.Effects.{nothing-view, mark-view, count-view, add-view, give-view, give-number-view, start-view, stop-view}
 use Rattle.rules.proofs.Effects.{suspend-view, resume-view}
 use Rattle.rules.proofs.Tries.{coop-term, cont-term, values-numbers, number-given, number-missing, Idle, Tried, tried-wait}
@@ -58,15 +60,17 @@ no-leaf (inl e) p q = clash refl (p e)
 no-leaf (inr e) p q = clash refl (q e)
 
 -- a step that ends the turn is kept, with the count left, or is behind the routine
-pub data Halted (r : ℕ) (k : Kind) (x : Position) (s : State) (ms : Marks) (h : Ending) (y : Position) : Type 0 where
+pub data Halted (size r : ℕ) (k : Kind) (x : Position) (s : State) (ms : Marks) (h : Ending) (y : Position) : Type 0 where
   stays :
-      ⟨ instruction r x k & view s ms ⟩⟶[ statusAfter h ]⟨ instruction r y k & view s ms ⟩ →
-      statusAfter h ≢ TERM → y .place ≡ x .place →
-      Halted r k x s ms h y
+      {α : Status} →
+      ⟨ instruction r x k & view s ms ⟩⟶[ α ]⟨ instruction r y k & view s ms ⟩ →
+      HaltsAs size y h α → y .place ≡ x .place →
+      Halted size r k x s ms h y
   leaves :
-      ⟨ instruction r x k & view s ms ⟩⟶[ statusAfter h ]⟨ nothing & view s ms ⟩ →
-      statusAfter h ≢ TERM → y ≡ fresh (suc (x .place)) →
-      Halted r k x s ms h y
+      {α : Status} →
+      ⟨ instruction r x k & view s ms ⟩⟶[ α ]⟨ nothing & view s ms ⟩ →
+      HaltsAs size y h α → y ≡ fresh (suc (x .place)) →
+      Halted size r k x s ms h y
 
 module _ (counts : Counts) (r : ℕ) (steps : List ℕ) where
   -- what a step comes to, with these marks, is what the rule of its kind says
@@ -75,7 +79,7 @@ module _ (counts : Counts) (r : ℕ) (steps : List ℕ) where
       (q ≡ suc (x .place))
       × (HasRoom (counts .routines) s →
       ⟨ instruction r x k & view s ms ⟩⟶[ TERM ]⟨ nothing & view (effectOn e s) (ms ++ new) ⟩)
-  ActByRule k x s ms (Halts h y) new = Halted r k x s ms h y
+  ActByRule k x s ms (Halts h y) new = Halted (sizeOf steps) r k x s ms h y
 
   abbrev pub ByRule : Kind → Position → State → Marks → Tick → Type 0
   ByRule k x s ms t = ActByRule k x s ms (t .act) (marksIn (t .told))
@@ -96,8 +100,8 @@ module _ (counts : Counts) (r : ℕ) (steps : List ℕ) where
     attempts :
         (t : Thing) (e : Effect) (y : Position) →
         (isThere s t ≡ true → ActByRule k x s ms (onward r steps x s e) []) →
-        (isThere s t ≡ false → s .eoi ≡ true → Halted r k x s ms Missed y) →
-        (isThere s t ≡ false → s .eoi ≡ false → Halted r k x s ms Continued x) →
+        (isThere s t ≡ false → s .eoi ≡ true → Halted (sizeOf steps) r k x s ms Missed y) →
+        (isThere s t ≡ false → s .eoi ≡ false → Halted (sizeOf steps) r k x s ms Continued x) →
         ByRule k x s ms (tries r steps x s t e y)
     unfolding marksIn
     attempts t e y found rests again =
@@ -106,16 +110,19 @@ module _ (counts : Counts) (r : ℕ) (steps : List ℕ) where
 
     -- a try of a step that stays at position y
     waiting :
-        (t : Thing) (y : Position) → Tried s ms (isThere s t) (instruction r x k) (instruction r y k) → y .place ≡ x .place →
-        ByRule k x s ms (tries r steps x s t Nothing y)
-    waiting t y w e =
-        attempts t Nothing y
-        (λ h. passes (w .found h)) (λ h o. stays (w .rests h o) coop-term e) (λ h o. stays (w .again h o) cont-term refl)
+        (t : Thing) (w : Pause) → Tried s ms (isThere s t) (instruction r x k) (instruction r (pausedAt w) k) w →
+        pausedAt w .place ≡ x .place →
+        ByRule k x s ms (tries r steps x s t Nothing (pausedAt w))
+    waiting t w tried e =
+        attempts t Nothing (pausedAt w) (λ h. passes (tried .found h))
+        (λ h o. stays (tried .rests h o) (coop-term, missesAs w refl) e)
+        (λ h o. stays (tried .again h o) (cont-term, continuesAs) refl)
 
     -- the same with a count, which may be over
     waiting-for :
         (t : Thing) (count : ℕ) → (count ≤ 0 → Idle s ms (instruction r x k) TERM nothing) →
-        (0 < count → Tried s ms (isThere s t) (instruction r x k) (instruction r (begunAt (x .place) (count - 1)) k)) →
+        (let w = missesFor (x .place) (count - 1) in
+        0 < count → Tried s ms (isThere s t) (instruction r x k) (instruction r (pausedAt w) k) w) →
         ByRule k x s ms (waitsFor r steps x s t count)
     unfolding waitsFor marksIn
     waiting-for t count over w =
@@ -125,8 +132,8 @@ module _ (counts : Counts) (r : ℕ) (steps : List ℕ) where
         let goes-on : isThere s t ≡ false → 0 < count = λ e. omega (arith, eqb-false count 0 (sym (and-true _) ∙ (rw e at h))) in
         attempts t Nothing (begunAt (x .place) (count - 1))
         (λ e. passes (elim (decLe count 0) [ yes z ↦ over z | no p ↦ w (omega arith) .found e ]))
-        (λ e o. stays (w (goes-on e) .rests e o) coop-term refl)
-        (λ e o. stays (w (goes-on e) .again e o) cont-term refl))
+        (λ e o. stays (w (goes-on e) .rests e o) (coop-term, missesAs _ refl) refl)
+        (λ e o. stays (w (goes-on e) .again e o) (cont-term, continuesAs) refl))
 
   module _ (x : Position) (s : State) (ms : Marks) where
     rests-for : (n : ℕ) → ByRule (kind.RestFor n) x s ms (telling (restsFor r steps x s (countAt x n)) [])
@@ -134,7 +141,7 @@ module _ (counts : Counts) (r : ℕ) (steps : List ℕ) where
     rests-for n =
         by-test (λ (a : Act). ActByRule (kind.RestFor n) x s ms a []) (eqb (countAt x n) 0)
         (λ h. passes (kind.RestFor n) x s ms (rule23 (omega (arith, eqb-true (countAt x n) 0 h))))
-        (λ h. stays (rule24 (omega (arith, eqb-false (countAt x n) 0 h))) coop-term refl)
+        (λ h. stays (rule24 (omega (arith, eqb-false (countAt x n) 0 h))) (coop-term, restsAs _ refl) refl)
 
     -- the state behind a reading
     taken : (e c k : ℕ) → view (effectOn (Put c (numberAt s e k)) s) ms ≡ returned e c k (view s ms)
@@ -146,8 +153,9 @@ module _ (counts : Counts) (r : ℕ) (steps : List ℕ) where
     reads-number e c k =
         attempts (kind.Read e c k) x s ms (number e k) (Put c (numberAt s e k)) (fresh (x .place + 1))
         (λ h. changes (kind.Read e c k) x s ms (Put c (numberAt s e k)) (λ f. taken e c k) (rule30 (number-given s ms e k h)))
-        (λ h o. leaves (rule32 (number-missing s ms e k h) o) coop-term (ap fresh (add-one (x .place))))
-        (λ h o. stays (rule31 (number-missing s ms e k h) o) cont-term refl)
+        (λ h o.
+        leaves (rule32 (number-missing s ms e k h) o) (coop-term, missesAs (unread (x .place)) refl) (ap fresh (add-one (x .place))))
+        (λ h o. stays (rule31 (number-missing s ms e k h) o) (cont-term, continuesAs) refl)
 
   leaf-by-rule :
       (k : Kind) → Leaf (formOf k) → FieldsRight counts k → counts .routines ≤ mostRoutines →
@@ -166,14 +174,15 @@ module _ (counts : Counts) (r : ℕ) (steps : List ℕ) where
   leaf-by-rule (kind.SignalNumber e c) l b few x s ms =
       let v = counterAt (s .game) c in
       changes (kind.SignalNumber e c) x s ms (GiveNumber e v) (λ f. give-number-view s ms e v) rule13
-  leaf-by-rule kind.Rest l b few x s ms = leaves rule11 coop-term (ap fresh (add-one (x .place)))
+  leaf-by-rule kind.Rest l b few x s ms = leaves rule11 (coop-term, restsAs _ refl) (ap fresh (add-one (x .place)))
   leaf-by-rule (kind.RestFor n) l b few x s ms = rests-for x s ms n
-  leaf-by-rule (kind.Wait e) l b few x s ms = waiting (kind.Wait e) x s ms (signal e) (fresh (x .place)) (tried-wait s ms e) refl
+  leaf-by-rule (kind.Wait e) l b few x s ms =
+      waiting (kind.Wait e) x s ms (signal e) (misses (x .place)) (tried-wait s ms (x .place) e) refl
   leaf-by-rule (kind.WaitFor e n) l b few x s ms =
-      waiting-for (kind.WaitFor e n) x s ms (signal e) (countAt x n) (λ z. rule25 (inr z)) (tried-wait-for s ms e (countAt x n))
-  leaf-by-rule (kind.Join t) l b few x s ms = waiting (kind.Join t) x s ms (end t) (fresh (x .place)) (tried-join s ms t) refl
+      waiting-for (kind.WaitFor e n) x s ms (signal e) (countAt x n) (λ z. rule25 (inr z)) (tried-wait-for s ms (x .place) e (countAt x n))
+  leaf-by-rule (kind.Join t) l b few x s ms = waiting (kind.Join t) x s ms (end t) (misses (x .place)) (tried-join s ms (x .place) t) refl
   leaf-by-rule (kind.JoinFor t n) l b few x s ms =
-      waiting-for (kind.JoinFor t n) x s ms (end t) (countAt x n) (λ z. rule28 (inr z)) (tried-join-for s ms t (countAt x n))
+      waiting-for (kind.JoinFor t n) x s ms (end t) (countAt x n) (λ z. rule28 (inr z)) (tried-join-for s ms (x .place) t (countAt x n))
   leaf-by-rule (kind.Read e c k) l b few x s ms = reads-number x s ms e c k
   leaf-by-rule (kind.Start t) l b few x s ms =
       changes (kind.Start t) x s ms (Start t) (λ f. start-view s ms t f b few) rule19

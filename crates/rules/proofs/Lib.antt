@@ -8,6 +8,7 @@ pub mod Leaves
 pub mod Nothings
 pub mod Determined
 pub mod Places
+pub mod OneParse
 pub mod Outcomes
 pub mod Blocks
 pub mod Turns
@@ -16,7 +17,11 @@ pub mod Actions
 pub mod Chaining
 pub mod Told
 pub mod Seen
+pub mod Left
 pub mod Passes
 pub mod Rounds
 pub mod Buffers
+pub mod SameGame
 pub mod Adequacy
+pub mod OneAnswer
+pub mod Examples

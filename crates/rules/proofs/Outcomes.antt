@@ -3,7 +3,6 @@
 use Prim.Native.Nat.{ℕ, suc, _≤_, _<_}
 use mathlib.Core.Path.{_≡_, sym, ap, subst, _∙_}
 use mathlib.Core.List.{List, [], _++_, append-nil}
-use mathlib.Core.Logic.{_≢_}
 use native.Mathlib.Omega.{arith}
 use Rattle.kinds.specs.declared.Kind.{Kind}
 use Rattle.kinds.specs.declared.Counts.{Counts}
@@ -12,13 +11,14 @@ use Rattle.round.specs.declared.Position.{Position}
 use Rattle.round.specs.declared.Effect.the-variants.{Nothing}
 use Rattle.round.specs.declared.Act.the-variants.{Goes}
 use Rattle.round.specs.State.{State}
+use Rattle.round.specs.Jumps.{sizeOf}
 use Rattle.round.specs.Ticks.{Tick, telling, tick, fresh, effectOn}
 use Rattle.round.specs.Answers.{marksIn}
 use Rattle.rules.specs.Instructions.{Status, TERM, Instruction, nothing}
 use Rattle.rules.specs.Rules.{⟨_&_⟩⟶[_]⟨_&_⟩}
 use Rattle.rules.specs.Residual.{instruction, _⇝_, same}
 use Rattle.rules.specs.View.{view}
-use Rattle.rules.proofs.Walks.{Marks, Ends, halts, goes, statusAfter}
+use Rattle.rules.proofs.Walks.{Marks, HaltsAs, Ends, halts, goes}
 use Rattle.rules.proofs.Leaves.{Halted, stays, leaves, ByRule}
 
 abbrev pub Run : Instruction → State → Marks → Status → Instruction → State → Marks → Type 0
@@ -32,12 +32,12 @@ module _ (counts : Counts) (r : ℕ) (steps : List ℕ) (h : Ending) (y : Positi
   -- at most n steps from state s and marks ms on, where i is to be run of a step from place p up to place e
   pub data OfStep (i : Instruction) (left : Position → Instruction) (p e n : ℕ) (s : State) (ms : Marks) : Type 0 where
     stops :
-        {t : Instruction} →
-        Run i s ms (statusAfter h) t u us → statusAfter h ≢ TERM → t ⇝ left y → p ≤ y .place → y .place < e →
+        {t : Instruction} {α : Status} →
+        Run i s ms α t u us → HaltsAs (sizeOf steps) y h α → t ⇝ left y → p ≤ y .place → y .place < e →
         OfStep i left p e n s ms
     rests :
-        {t : Instruction} →
-        Run i s ms (statusAfter h) t u us → statusAfter h ≢ TERM → t ⇝ nothing → y ≡ fresh e →
+        {t : Instruction} {α : Status} →
+        Run i s ms α t u us → HaltsAs (sizeOf steps) y h α → t ⇝ nothing → y ≡ fresh e →
         OfStep i left p e n s ms
     over :
         (m : ℕ) (v : State) (vs : Marks) →
@@ -47,8 +47,8 @@ module _ (counts : Counts) (r : ℕ) (steps : List ℕ) (h : Ending) (y : Positi
   -- the same for a block, whose end is a place of it
   pub data OfBlock (i : Instruction) (left : Position → Instruction) (p e n : ℕ) (s : State) (ms : Marks) : Type 0 where
     within :
-        {t : Instruction} →
-        Run i s ms (statusAfter h) t u us → statusAfter h ≢ TERM → t ⇝ left y → p ≤ y .place → y .place ≤ e →
+        {t : Instruction} {α : Status} →
+        Run i s ms α t u us → HaltsAs (sizeOf steps) y h α → t ⇝ left y → p ≤ y .place → y .place ≤ e →
         OfBlock i left p e n s ms
     passes :
         (m : ℕ) (x : Position) (v : State) (vs : Marks) →
@@ -76,7 +76,7 @@ module _ {counts : Counts} {r : ℕ} {steps : List ℕ} {h : Ending} {y : Positi
   -- a step that holds no block, and goes by its rule
   leaf-halts :
       {p n : ℕ} {k : Kind} {x : Position} →
-      x .place ≡ p → Halted r k x u us h y →
+      x .place ≡ p → Halted (sizeOf steps) r k x u us h y →
       OfStep counts r steps h y u us (instruction r x k) (λ z. instruction r z k) p (suc p) n u us
   leaf-halts l (stays run on m) = stops run on same (omega arith) (omega arith)
   leaf-halts l (leaves run on m) = rests run on same (m ∙ ap (λ (q : ℕ). fresh (suc q)) l)

@@ -1,6 +1,7 @@
 -- A turn of a routine is what rules 33 and 34 do with its thread, a pass is an execution step, and the passes of a round are an instant.
--- By induction on routines and passes, from what is shown of a turn's steps; the threads' instructions keep standing for the positions.
-use Prim.Native.Nat.{ℕ, zero, suc, _<_, _≤_}
+-- By induction on routines and passes, from what is shown of a turn's steps; the threads' instructions keep standing for the positions, and
+-- the positions are those that the log says.
+use Prim.Native.Nat.{ℕ, zero, suc, _+_, _<_, _≤_}
 use mathlib.Core.Path.{_≡_, sym, _∙_, ap, refl, subst}
 use mathlib.Core.Bool.{Bool, true, false, _||_, not}
 use mathlib.Core.List.{List, [], _∷_, _++_, append-nil}
@@ -11,16 +12,19 @@ use native.Mathlib.Decide.{ℕ-discrete}
 use native.Mathlib.Numerals.{add-one}
 use borrow.Author.Tests.{eq-eqb, ne-eqb}
 use lib.Dec.{eqb}
+use lib.ListN.{length}
+use Rattle.numbers.specs.Choice.{if_then_else_}
 use Rattle.numbers.specs.Counting.{All}
 use Rattle.numbers.proofs.Tests.{clash}
 use Rattle.layout.specs.Layout.{routinesOf}
 use Rattle.directory.specs.Directory.{routineSteps}
 use Rattle.book.specs.Accepted.{Accepted}
 use Rattle.game.specs.declared.Routine.{Routine}
+use Rattle.game.specs.declared.Game.{Game}
 use Rattle.lines.specs.Lines.{entriesOf}
-use Rattle.game.specs.Game.{continuing, routineAt}
+use Rattle.game.specs.Game.{routineAt}
+use Rattle.game.specs.Game as game
 use Rattle.round.specs.declared.Ending.{Ending}
-use Rattle.round.specs.declared.Ending.the-variants.{Ended, Rested, Missed, Continued}
 use Rattle.round.specs.declared.Position.{Position}
 use Rattle.round.specs.declared.Turn.the-variants.{Took}
 use Rattle.round.specs.State.{State}
@@ -31,35 +35,39 @@ use Rattle.round.specs.Answers.{marksIn}
 use Rattle.round.specs.claims.Enough.{RoundEnds}
 use Rattle.round.specs.claims.Sound.{Sound}
 use Rattle.round.proofs.StartSound.{listed-below}
+use Rattle.round.proofs.Standings.{same-standing}
 use Rattle.round.proofs.TurnLaws.{isGoing}
 use Rattle.round.proofs.Parsed.{size-same}
 use Rattle.round.proofs.Lasting.{routine-in-time}
 use Rattle.round.proofs.Coming.{turn-untouched}
-use Rattle.round.proofs.AfterTurn.{going-parts, position-after, turn-by, turn-taken}
+use Rattle.round.proofs.AfterTurn.{going-parts, position-after, after-going, turn-by, turn-taken}
 use Rattle.round.proofs.TurnSound.{turn-sound, again-sound}
 use Rattle.round.proofs.Turned.{turn-turned}
 use Rattle.round.proofs.After.{pass-keeps}
 use Rattle.round.proofs.Waiting.{done-append}
-use Rattle.rules.specs.Instructions.{CONT, Instruction}
-use Rattle.rules.specs.Schedulers.{is, Scheduler, has, statusOf}
-use Rattle.rules.specs.Instants.{runs, isFinished, rule33, rule34, InTurn, none, next, ExecutionStep, rule35, rule36, rule37, rule38}
+use Rattle.rules.specs.Instructions.{Status, Instruction}
+use Rattle.rules.specs.Schedulers.{continuing, Scheduler, has, statusOf}
+use Rattle.rules.specs.Instants.{runs, Execution, skipped, executed, isFinished, rule33, rule34, StepLog, allFinished, InTurn, none}
+use Rattle.rules.specs.Instants.{next, ExecutionStep, rule35, rule36, Log, rule37, rule38}
+use Rattle.rules.specs.Positions.{lastIn, lastOf}
 use Rattle.rules.specs.Residual.{residual, _⇝_}
 use Rattle.rules.specs.View.{view}
 use Rattle.rules.specs.Claims.{Stands, TurnRule, PassRule, InstantRule}
 use Rattle.rules.proofs.Naming.{given}
-use Rattle.rules.proofs.Walks.{Marks, statusAfter}
+use Rattle.rules.proofs.Walks.{Marks, Shows, endsAs, restsAs, missesAs, continuesAs}
 use Rattle.rules.proofs.Told.{marks-then, ends-of}
 use Rattle.rules.proofs.Stages.{stage-continues, stage-pauses, stage-seen}
 use Rattle.rules.proofs.Seen.{suspended-seen, after-seen, actual-seen, again-seen}
 use Rattle.rules.proofs.Routines.{routine-by-rules}
+use Rattle.rules.proofs.Left.{Behind, shows-behind, behind-then}
 
 -- b of rule 34
-done-turn : (h : Ending) → isFinished (statusAfter h) ≡ allDone (Took h ∷ [])
+done-turn : {size : ℕ} {y : Position} {h : Ending} {α : Status} → Shows size y h α → isFinished (executed α) ≡ allDone (Took h ∷ [])
 unfolding allDone
-done-turn Ended = refl
-done-turn Rested = refl
-done-turn Missed = refl
-done-turn Continued = refl
+done-turn (endsAs e) = refl
+done-turn (restsAs w e) = refl
+done-turn (missesAs w e) = refl
+done-turn continuesAs = refl
 
 -- why rule 33 passes over a routine
 not-going : (suspended continues : Bool) → not (suspended || not continues) ≡ false → (suspended ≡ true) ⊎ (continues ≡ false)
@@ -69,8 +77,8 @@ not-going false false h = inr refl
 
 -- rules 35 and 36
 execution :
-    {ts : List ℕ} {run run′ : ℕ → Instruction} {σ σ′ : Scheduler} {b : Bool} → σ .actual ≡ ts → InTurn ts run σ b run′ σ′ →
-    ExecutionStep run σ b run′ σ′
+    {ts : List ℕ} {run run′ : ℕ → Instruction} {σ σ′ : Scheduler} {l : StepLog} → σ .actual ≡ ts → InTurn ts run σ l run′ σ′ →
+    ExecutionStep run σ l run′ σ′
 execution e none = rule35 e
 execution e (next first others) = rule36 e (next first others)
 
@@ -112,47 +120,84 @@ module _ (book : List ℕ) (a : Accepted book) where
           ]
 
       module _ (ms : Marks) where
-        turn-over-rule : isGoing s r ≡ false → TurnRule book a r run s ms (notTaken s)
+        -- a rule gives the turn d, and leaves routine r where its thread's execution says
+        abbrev ByRule : Played → Type 0
+        ByRule d =
+            (run′ : ℕ → Instruction) × (e : Execution) × TurnRule book a run s ms run′ r d e × Behind book r e (s .game) (d .state .game)
+
+        turn-over-rule : isGoing s r ≡ false → ByRule (notTaken s)
         unfolding allDone marksIn
         turn-over-rule h =
-            let why : (has (view s ms .threads .susp) r ≡ true) ⊎ (statusOf (view s ms) r ≢ is CONT) =
-            elim (not-going (x .suspended) (eqb (x .stage) continuing) h) [
+            let why : (has (view s ms .threads .susp) r ≡ true) ⊎ (statusOf (view s ms) r ≢ continuing) =
+            elim (not-going (x .suspended) (eqb (x .stage) game.continuing) h) [
               | inl e ↦ inl (suspended-seen s ms r ∙ e)
               | inr e ↦ inr (λ c. stage-pauses (x .stage) e (sym (stage-seen s ms r) ∙ c))
             ]
             in
-            (run, rw append-nil (rule33 why), stand)
+            (run, skipped, record { derived = rw append-nil (rule33 why); finished = refl; stands = stand }, same-standing)
 
-        turn-taken-rule : isGoing s r ≡ true → TurnRule book a r run s ms (taken r t)
+        turn-taken-rule : isGoing s r ≡ true → ByRule (taken r t)
         turn-taken-rule going =
             let time = routine-in-time book a r l (positionOf x) s in
             let (n, ends) = ends-of book a r (mostTicks steps) (positionOf x) s time sound ms in
             let inside : x .place ≤ sizeOf steps = omega (arith, sound .fits .placesInRange r l, size-same book a r l) in
-            let (i, rule, w) = routine-by-rules book a r l n (positionOf x) s ms (run r) inside (stand r l) ends in
+            let to = routine-by-rules book a r l n (positionOf x) s ms (run r) inside (stand r l) ends in
             let (unsuspended, stage) = going-parts (x .suspended) (x .stage) going in
-            let thread = rule34 (suspended-seen s ms r ∙ unsuspended) (stage-seen s ms r ∙ stage-continues (x .stage) stage) rule in (
-              runs run r i,
-              rw (← done-turn (t .ending), after-seen r t (ms ++ marksIn (t .told))) thread,
-              stands-after i going w,
+            let thread =
+            rule34 (suspended-seen s ms r ∙ unsuspended) (stage-seen s ms r ∙ stage-continues (x .stage) stage) (to .rule) in
+            let standing = turn-untouched book r s .standings r in (
+              runs run r (to .after),
+              executed (to .status),
+              record {
+                derived = rw (after-seen r t (ms ++ marksIn (t .told)) (to .shows)) thread;
+                finished = done-turn (to .shows);
+                stands = stands-after (to .after) going (to .leaves);
+              },
+              shows-behind book r (s .game) (afterTurn r t .game) (size-same book a r l) (to .shows) (position-after r s t standing going)
+                  (after-going r s t standing going),
             )
 
-        pub turn-by-rules : TurnRule book a r run s ms (turn book r s)
-        turn-by-rules = turn-by book r s (TurnRule book a r run s ms) turn-over-rule turn-taken-rule
+        pub turn-by-rules :
+            (run′ : ℕ → Instruction) × (e : Execution) × TurnRule book a run s ms run′ r (turn book r s) e
+            × Behind book r e (s .game) (turn book r s .state .game)
+        turn-by-rules = turn-by book r s ByRule turn-over-rule turn-taken-rule
+
+  -- each routine stands behind some turns where their log says
+  abbrev AllBehind : StepLog → Game → Game → Type 0
+  AllBehind l g h = (q : ℕ) → q < R → Behind book q (lastIn q l) g h
+
+  -- a turn leaves the others alone
+  turn-behind :
+      (r : ℕ) → r < R → (s : State) → Sound book s → (e : Execution) → Behind book r e (s .game) (turn book r s .state .game) →
+      (q : ℕ) → Behind book q (if eqb r q then e else skipped) (s .game) (turn book r s .state .game)
+  turn-behind r l s sound e own q = elim (ℕ-discrete q r) [
+    | yes same ↦
+        rw (eq-eqb r q (sym same)) (subst (λ q. Behind book q e (s .game) (turn book r s .state .game)) (sym same) own)
+    | no n ↦ rw (ne-eqb r q (λ same. n (sym same))) (turn-turned book a r s l sound .standings .others q n)
+  ]
 
   -- some routines in turn
   turns-by-rules :
       (rs : List ℕ) → All (λ r. r < R) rs → (run : ℕ → Instruction) (s : State) (ms : Marks) → Stands book a run (s .game) →
       Sound book s → let d = pass book rs s in
-      (to : ℕ → Instruction) × InTurn rs run (view s ms) (allDone (d .turns)) to (view (d .state) (ms ++ marksIn (d .told)))
-      × Stands book a to (d .state .game)
-  unfolding pass
-  turns-by-rules [] b run s ms stand sound = unfold allDone marksIn in (run, rw append-nil none, stand)
+      (to : ℕ → Instruction) × (l : StepLog) × InTurn rs run (view s ms) l to (view (d .state) (ms ++ marksIn (d .told)))
+      × (allFinished l ≡ allDone (d .turns)) × Stands book a to (d .state .game) × AllBehind l (s .game) (d .state .game)
+  unfolding pass lastIn allFinished
+  turns-by-rules [] b run s ms stand sound =
+      unfold allDone marksIn in (run, [], rw append-nil none, refl, stand, λ q m. same-standing)
   turns-by-rules (r ∷ rs) b run s ms stand sound =
       let first = turn book r s in
       let sound-first = turn-sound book a r s (b .0) sound in
-      let (to, rule, stand-first) = turn-by-rules r (b .0) run s stand sound ms in
-      let (last, others, stand-last) = turns-by-rules rs (b .1) to (first .state) (ms ++ marksIn (first .told)) stand-first sound-first in
-      (last, rw (done-append, ← marks-then) (next rule others), stand-last)
+      let (to, e, rule, own) = turn-by-rules r (b .0) run s stand sound ms in
+      let (last, l, others, done, stand-last, behind) =
+      turns-by-rules rs (b .1) to (first .state) (ms ++ marksIn (first .told)) (rule .stands) sound-first in (
+        last,
+        (r, e) ∷ l,
+        rw (← marks-then) (next (rule .derived) others),
+        rw (done-append, rule .finished, done),
+        stand-last,
+        λ q m. behind-then book q _ (lastIn q l) (s .game) (first .state .game) _ (turn-behind r (b .0) s sound e own q) (behind q m),
+      )
 
   -- the routines that the scheduler has in actual
   abbrev listed : State → List ℕ
@@ -160,20 +205,28 @@ module _ (book : List ℕ) (a : Accepted book) where
 
   pub pass-by-rules :
       (run : ℕ → Instruction) (s : State) (ms : Marks) → Stands book a run (s .game) → Sound book s →
-      PassRule book a run s ms (pass book (entriesOf (s .game .listed)) s)
+      let d = pass book (entriesOf (s .game .listed)) s in
+      (run′ : ℕ → Instruction) × (l : StepLog) × PassRule book a run s ms run′ d l × AllBehind l (s .game) (d .state .game)
   pass-by-rules run s ms stand sound =
-      let (to, rule, stand-last) = turns-by-rules (listed s) (listed-below sound) run s ms stand sound in
-      (to, execution (actual-seen s ms) rule, stand-last)
+      let (to, l, rule, done, stands, behind) = turns-by-rules (listed s) (listed-below sound) run s ms stand sound in
+      (to, l, record { derived = execution (actual-seen s ms) rule; finished = done; stands = stands }, behind)
 
   pub instant-by-rules :
       (n : ℕ) (run : ℕ → Instruction) (s : State) (ms : Marks) → Stands book a run (s .game) → Sound book s →
       RoundEnds book n (entriesOf (s .game .listed)) s →
-      InstantRule book a run s ms (instant book n (entriesOf (s .game .listed)) s)
-  unfolding instant RoundEnds
+      let d = instant book n (entriesOf (s .game .listed)) s in
+      (run′ : ℕ → Instruction) × (log : Log) × InstantRule book a run s ms run′ d log
+      × ((q : ℕ) → q < R → Behind book q (lastOf q log) (s .game) (d .played .state .game))
+  unfolding instant RoundEnds lastOf
   instant-by-rules zero run s ms stand sound ends = absurd ends
   instant-by-rules (suc n) run s ms stand sound (inl done) =
-      let (to, rule, stand-first) = pass-by-rules run s ms stand sound in
-      rw done (to, rule37 (rw done at rule), stand-first)
+      let (to, l, rule, behind) = pass-by-rules run s ms stand sound in
+      rw done (
+        to,
+        l ∷ [],
+        record { derived = rule37 (rule .derived) (rule .finished ∙ done); passes = refl; stands = rule .stands },
+        behind,
+      )
   instant-by-rules (suc n) run s ms stand sound (inr (undone, ends)) =
       let rs = listed s in
       let first = pass book rs s in
@@ -181,9 +234,17 @@ module _ (book : List ℕ) (a : Accepted book) where
       let (sound-last, kept) = pass-keeps book a rs (listed-below sound) s sound in
       let same : listed u ≡ rs = ap (λ l. entriesOf l) (kept .listed) in
       let sound-again = again-sound (first .state) sound-last in
-      let (to, rule, stand-first) = pass-by-rules run s ms stand sound in
+      let (to, l, rule, behind) = pass-by-rules run s ms stand sound in
       let flags = again-seen (first .state) (ms ++ marksIn (first .told)) in
-      given (rw same at (instant-by-rules n to u (ms ++ marksIn (first .told)) stand-first sound-again (rw same ends)))
-      (λ (last, others, stand-last).
-      rw (undone, add-one (instant book n rs u .passes), ← marks-then)
-      (last, rule38 {run″ = last} (rw undone at rule) (rw flags at others), stand-last))
+      given (rw same at (instant-by-rules n to u (ms ++ marksIn (first .told)) (rule .stands) sound-again (rw same ends)))
+      (λ (last, log, others, later).
+      rw undone (
+        last,
+        l ∷ log,
+        record {
+          derived = rw (← marks-then) (rule38 {run″ = last} (rule .derived) (rule .finished ∙ undone) (rw flags at (others .derived)));
+          passes = ap (λ k. k + 1) (others .passes) ∙ add-one (length log);
+          stands = others .stands;
+        },
+        λ q m. behind-then book q (lastIn q l) (lastOf q log) (s .game) (first .state .game) _ (behind q m) (later q m),
+      ))

@@ -1,26 +1,38 @@
 -- A round is what the paper has for it, one chaining step and then one instant, whatever signals and numbers an earlier round left; and
 -- it is the only one. The chaining step is the eight actions, which leave every routine where it stands; the passes are an instant.
-use Prim.Native.Nat.{ℕ}
-use mathlib.Core.Path.{_≡_, sym, _∙_}
+use Prim.Native.Nat.{ℕ, _<_}
+use mathlib.Core.Path.{_≡_}
+use mathlib.Core.Bool.{false}
 use mathlib.Core.List.{List, _++_}
+use mathlib.Core.Logic.{inl}
+use lib.ListN.{length}
+use Rattle.numbers.proofs.Tests.{by-flag}
+use Rattle.layout.specs.Layout.{routinesOf}
+use Rattle.directory.specs.Directory.{stepCount}
 use Rattle.book.specs.Accepted.{Accepted}
 use Rattle.game.specs.declared.Game.{Game}
+use Rattle.game.specs.Game.{routineAt}
 use Rattle.fitting.specs.Fits.{Fits}
 use Rattle.round.specs.State.{State}
-use Rattle.round.specs.Actions.{atStart}
-use Rattle.round.specs.Rounds.{mostPasses, round}
+use Rattle.round.specs.Actions.{positionOf, atStart}
+use Rattle.round.specs.Rounds.{mostPasses, round, back}
 use Rattle.round.specs.Answers.{marksIn}
 use Rattle.round.proofs.Actions.{at-start-positions}
-use Rattle.round.proofs.StartSound.{at-start-sound}
+use Rattle.round.proofs.StartSound.{at-start-sound, listed-among}
 use Rattle.round.proofs.Enough.{enough}
-use Rattle.round.proofs.After.{round-fits}
+use Rattle.round.proofs.TurnLaws.{takesTurn}
+use Rattle.round.proofs.AfterTurn.{going-parts}
+use Rattle.round.proofs.After.{round-keeps}
+use Rattle.round.proofs.Demand.{none-going}
 use Rattle.rules.specs.Instructions.{Instruction}
-use Rattle.rules.specs.Instants.{Round}
+use Rattle.rules.specs.Instants.{Log, Round}
+use Rattle.rules.specs.Positions.{lastOf, LeftBy}
 use Rattle.rules.specs.View.{view}
 use Rattle.rules.specs.Claims.{Gives, Stands}
 use Rattle.rules.proofs.Walks.{Marks}
 use Rattle.rules.proofs.Determined.{instant-determined}
 use Rattle.rules.proofs.Chaining.{chains}
+use Rattle.rules.proofs.Left.{left-at}
 use Rattle.rules.proofs.Passes.{instant-by-rules}
 
 module _ (book : List ℕ) (a : Accepted book) where
@@ -28,23 +40,37 @@ module _ (book : List ℕ) (a : Accepted book) where
   at-start-stands : (run : ℕ → Instruction) (g : Game) → Stands book a run g → Stands book a run (atStart g .game)
   at-start-stands run g stand r l = rw (at-start-positions g r) (stand r l)
 
-  -- and a round the numbers R, E and C, which are the book's
-  pub round-counts : (g : Game) → Fits book g → round book g .played .state .game .counts ≡ g .counts
-  round-counts g f = round-fits book a g f .numbers ∙ sym (f .numbers)
+  -- a listed routine takes no turn behind a round, and one that is not listed is not in stage 1
+  none-turns : (g : Game) (f : Fits book g) (r : ℕ) → r < routinesOf book → takesTurn (routineAt (back book g .game) r) ≡ false
+  none-turns g f r l =
+      let x = routineAt (back book g .game) r in
+      let (sound, kept) = round-keeps book a g f in
+      by-flag (takesTurn x) (λ on.
+      let listed = sound .fits .listedStages r l (inl (going-parts (x .suspended) (x .stage) on .1)) in
+      none-going book a g f r (listed-among book g a f r (rw (kept .listed) at listed)))
+      (λ off. off)
 
   pub round-given :
-      (run : ℕ → Instruction) (s : State) (ms : Marks) → Fits book (s .game) → Stands book a run (s .game) →
-      (run′ : ℕ → Instruction)
-      × Gives run (view s ms) (round book (s .game) .passes) run′
-      (view (round book (s .game) .played .state) (ms ++ marksIn (round book (s .game) .played .told)))
-      × Stands book a run′ (round book (s .game) .played .state .game)
+      (run : ℕ → Instruction) (s : State) (ms : Marks) (f : Fits book (s .game)) → Stands book a run (s .game) →
+      let d = round book (s .game) in
+      (run′ : ℕ → Instruction) × (log : Log)
+      × Gives run (view s ms) log run′ (view (d .played .state) (ms ++ marksIn (d .played .told)))
+      × (d .passes ≡ length log) × Stands book a run′ (d .played .state .game)
+      × ((r : ℕ) → r < routinesOf book →
+      LeftBy (stepCount book r) (positionOf (routineAt (s .game) r)) (lastOf r log) (positionOf (routineAt (d .played .state .game) r)))
   unfolding round
   round-given run s ms f stand =
       let g = s .game in
       let range = a .laid .counts in
-      let (to, rule, last) =
+      let (to, log, rule, behind) =
       instant-by-rules book a mostPasses run (atStart g) ms (at-start-stands run g stand) (at-start-sound book g a f)
       (enough book a g f .passes) in
-      let derived : Round (round book g .passes) run (view s ms) to
-      (view (round book g .played .state) (ms ++ marksIn (round book g .played .told))) = rw (chains book s ms range f) rule in
-      (to, record { derived = derived; noOther = λ n run″ σ″ other. instant-determined other derived }, last)
+      let derived : Round log run (view s ms) to (view (round book g .played .state) (ms ++ marksIn (round book g .played .told))) =
+      rw (chains book s ms range f) (rule .derived) in (
+        to,
+        log,
+        record { derived = derived; noOther = λ n run″ σ″ other. instant-determined other derived },
+        rule .passes,
+        rule .stands,
+        λ r l. rw (at-start-positions g r) at (left-at book r (lastOf r log) (atStart g .game) _ (behind r l) (none-turns g f r l)),
+      )

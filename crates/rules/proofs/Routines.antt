@@ -17,11 +17,10 @@ use Rattle.round.specs.State.{State}
 use Rattle.round.specs.Jumps.{sizeOf}
 use Rattle.round.proofs.Parsed.{size-same}
 use Rattle.rules.specs.Instructions.{Instruction}
-use Rattle.rules.specs.Rules.{⟨_&_⟩⟶[_]⟨_&_⟩}
 use Rattle.rules.specs.Residual.{leftOfBlock, residual, _⇝_}
 use Rattle.rules.specs.View.{view}
-use Rattle.rules.proofs.Walks.{Marks, Ends, statusAfter}
-use Rattle.rules.proofs.Turns.{steps-by-rules}
+use Rattle.rules.proofs.Walks.{Marks, Ends}
+use Rattle.rules.proofs.Turns.{RunsTo, steps-by-rules}
 
 module _ (book : List ℕ) (a : Accepted book) (r : ℕ) (h : r < routinesOf book) where
   abbrev steps : List ℕ
@@ -40,12 +39,9 @@ module _ (book : List ℕ) (a : Accepted book) (r : ℕ) (h : r < routinesOf boo
   pub routine-by-rules :
       {how : Ending} {y : Position} {u : State} {us : Marks} (n : ℕ) (x : Position) (s : State) (ms : Marks) (i : Instruction) →
       x .place ≤ sizeOf steps → i ⇝ residual book a r h x → Ends (countsOf book) r steps how y u us n x s ms →
-      (i′ : Instruction)
-      × ⟨ i & view s ms ⟩⟶[ statusAfter how ]⟨ i′ & view u us ⟩
-      × (i′ ⇝ residual book a r h y)
-  routine-by-rules {y = y} n x s ms i l w t =
+      RunsTo (sizeOf (routineSteps book r)) how y i (view s ms) (view u us) (residual book a r h y)
+  routine-by-rules {how} {y} {u} {us} n x s ms i l w t =
       let (b, alike) = parse in
-      let (i′, run, left) =
-      steps-by-rules (countsOf book) r steps (a .laid .counts .fewRoutines) b n x s ms i l
-      (subst (λ (j : Instruction). i ⇝ j) (alike x) w) t in
-      (i′, run, subst (λ (j : Instruction). i′ ⇝ j) (sym (alike y)) left)
+      subst (RunsTo (sizeOf steps) how y i (view s ms) (view u us)) (sym (alike y))
+      (steps-by-rules (countsOf book) r steps (a .laid .counts .fewRoutines) b n x s ms i l
+      (subst (λ (j : Instruction). i ⇝ j) (alike x) w) t)

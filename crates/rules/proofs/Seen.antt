@@ -7,15 +7,15 @@ use lib.ListN.{set, List·getD-map}
 use Rattle.lines.specs.Lines.{entriesOf}
 use Rattle.game.specs.Game.{blank, routineAt, withRoutine}
 use Rattle.round.specs.declared.Ending.{Ending}
-use Rattle.round.specs.declared.Ending.the-variants.{Ended, Rested, Missed, Continued}
 use Rattle.round.specs.declared.Position.{Position}
 use Rattle.round.specs.State.{State, withGame}
 use Rattle.round.specs.Rounds.{Ticks, behindTurn, withEnd, afterTurn, again}
+use Rattle.rules.specs.Instructions.{Status}
 use Rattle.rules.specs.Schedulers.{has}
 use Rattle.rules.specs.Instants.{withStatus, withTermination}
 use Rattle.rules.specs.Instants as paper
 use Rattle.rules.specs.View.{view}
-use Rattle.rules.proofs.Walks.{Marks, statusAfter}
+use Rattle.rules.proofs.Walks.{Marks, Shows, endsAs, restsAs, missesAs, continuesAs}
 use Rattle.rules.proofs.Stages.{seen, stage-after}
 use Rattle.rules.proofs.Effects.{keeps, changes, routine-view}
 
@@ -35,26 +35,25 @@ module _ (s : State) (ms : Marks) (r : ℕ) where
   suspended-seen = List·getD-map (λ x. x .suspended) (s .game .routines) r blank
 
   behind-seen :
-      (h : Ending) (y : Position) →
-      view (withGame s (withRoutine (s .game) r (behindTurn (routineAt (s .game) r) h y))) ms
-      ≡ withStatus r (statusAfter h) (view s ms)
+      {size : ℕ} {h : Ending} {y : Position} {α : Status} → Shows size y h α →
+      view (withGame s (withRoutine (s .game) r (behindTurn (routineAt (s .game) r) h y))) ms ≡ withStatus r α (view s ms)
   unfolding view
-  behind-seen h y =
+  behind-seen {h = h} {y = y} how =
       let x = behindTurn (routineAt (s .game) r) h y in
-      routine-view s r x ms (changes s r x seen ∙ ap (set (map seen (s .game .routines)) r) (stage-after h))
+      routine-view s r x ms (changes s r x seen ∙ ap (set (map seen (s .game .routines)) r) (stage-after how))
       (keeps s r x (λ a. a .suspended) refl) (keeps s r x (λ a. a .stopping) refl)
       (keeps s r x (λ a. a .suspending) refl) (keeps s r x (λ a. a .resuming) refl)
 
-  end-seen : (h : Ending) → view (withEnd h r s) ms ≡ withTermination (statusAfter h) r (view s ms)
+  end-seen :
+      {size : ℕ} {h : Ending} {y : Position} {α : Status} → Shows size y h α →
+      view (withEnd h r s) ms ≡ withTermination α r (view s ms)
   unfolding view
-  end-seen Ended = refl
-  end-seen Rested = refl
-  end-seen Missed = refl
-  end-seen Continued = refl
+  end-seen (endsAs e) = refl
+  end-seen (restsAs w e) = refl
+  end-seen (missesAs w e) = refl
+  end-seen continuesAs = refl
 
 pub after-seen :
-    (r : ℕ) (t : Ticks) (ms : Marks) →
-    view (afterTurn r t) ms ≡ withTermination (statusAfter (t .ending)) r (withStatus r (statusAfter (t .ending)) (view (t .state) ms))
-after-seen r t ms =
-    end-seen _ ms r (t .ending)
-    ∙ ap (λ σ. withTermination (statusAfter (t .ending)) r σ) (behind-seen (t .state) ms r (t .ending) (t .position))
+    {size : ℕ} {α : Status} (r : ℕ) (t : Ticks) (ms : Marks) → Shows size (t .position) (t .ending) α →
+    view (afterTurn r t) ms ≡ withTermination α r (withStatus r α (view (t .state) ms))
+after-seen {α = α} r t ms how = end-seen _ ms r how ∙ ap (λ σ. withTermination α r σ) (behind-seen (t .state) ms r how)

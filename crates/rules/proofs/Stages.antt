@@ -11,15 +11,15 @@ use lib.ListN.{List·getD-map}
 use Rattle.game.specs.declared.Routine.{Routine}
 use Rattle.game.specs.Game.{notStarted, continuing, rested, ended, blank, routineAt}
 use Rattle.round.specs.declared.Ending.{Ending}
-use Rattle.round.specs.declared.Ending.the-variants.{Ended, Rested, Missed, Continued}
+use Rattle.round.specs.declared.Position.{Position}
 use Rattle.round.specs.State.{State, hasEnded}
 use Rattle.round.specs.Rounds.{stageAfter}
-use Rattle.rules.specs.Instructions.{CONT}
-use Rattle.rules.specs.Schedulers.{Stage, is, statusOf, isNotStarted}
+use Rattle.rules.specs.Instructions.{Status}
+use Rattle.rules.specs.Schedulers.{Stage, stageBy, statusOf, isNotStarted}
 use Rattle.rules.specs.Schedulers as paper
 use Rattle.rules.specs.Instants.{isUnderWay, isTerminated}
 use Rattle.rules.specs.View.{stageOf, view}
-use Rattle.rules.proofs.Walks.{Marks, statusAfter}
+use Rattle.rules.proofs.Walks.{Marks, Shows, endsAs, restsAs, missesAs, continuesAs}
 
 -- a claim on stages 0 to 3 and on all others
 by-stage :
@@ -43,21 +43,21 @@ pub under-way-stage : (k : ℕ) → isUnderWay (stageOf k) ≡ (eqb k continuing
 under-way-stage =
     by-stage (λ k. isUnderWay (stageOf k) ≡ (eqb k continuing || eqb k rested)) refl refl refl refl (λ k a b c d. rw (a, b, c, d))
 
-pub stage-continues : (k : ℕ) → k ≡ continuing → stageOf k ≡ is CONT
+pub stage-continues : (k : ℕ) → k ≡ continuing → stageOf k ≡ paper.continuing
 stage-continues k e = rw e
 
-pub stage-pauses : (k : ℕ) → eqb k continuing ≡ false → stageOf k ≢ is CONT
+pub stage-pauses : (k : ℕ) → eqb k continuing ≡ false → stageOf k ≢ paper.continuing
 stage-pauses =
-    by-stage (λ k. eqb k continuing ≡ false → stageOf k ≢ is CONT)
+    by-stage (λ k. eqb k continuing ≡ false → stageOf k ≢ paper.continuing)
     (λ e h. true≢false (cc)) (λ e h. true≢false e) (λ e h. true≢false (cc)) (λ e h. true≢false (cc))
     (λ k a b c d e h. let g = rw (a, b, c, d) at h in true≢false (cc))
 
 -- behind a turn
-pub stage-after : (h : Ending) → stageOf (stageAfter h) ≡ is (statusAfter h)
-stage-after Ended = refl
-stage-after Rested = refl
-stage-after Missed = refl
-stage-after Continued = refl
+pub stage-after : {size : ℕ} {y : Position} {h : Ending} {α : Status} → Shows size y h α → stageOf (stageAfter h) ≡ stageBy α
+stage-after (endsAs e) = refl
+stage-after (restsAs w e) = refl
+stage-after (missesAs w e) = refl
+stage-after continuesAs = refl
 
 -- a routine's status
 abbrev pub seen : Routine → Stage

@@ -12,7 +12,8 @@ use lib.IntN.{ℤ}
 use Rattle.numbers.proofs.Tests.{neither, first-or-second}
 use Rattle.round.specs.State.{State, end, number, numbersWith, isEndThere, isThere}
 use Rattle.round.specs.State as thing
-use Rattle.rules.specs.Instructions.{Status, TERM, COOP, CONT, Event, signal, term, Instruction, nothing, await, join, awaitN, joinN}
+use Rattle.rules.specs.Instructions.{Pause, misses, missesFor, Status, TERM, COOP, CONT, Event, signal, term, Instruction, nothing}
+use Rattle.rules.specs.Instructions.{await, join, awaitN, joinN}
 use Rattle.rules.specs.Schedulers.{isPresent, valuesFrom, valuesOf, statusOf, hasEnded}
 use Rattle.rules.specs.Rules.{Present, Absent, HasEnded, NotEnded, ⟨_&_⟩⟶[_]⟨_&_⟩, rule14, rule15, rule16, rule17, rule18}
 use Rattle.rules.specs.Rules.{rule18-again, rule25, rule26, rule27, rule28, rule29, rule29-again}
@@ -20,7 +21,7 @@ use Rattle.rules.specs.View.{view}
 use Rattle.rules.proofs.Walks.{Marks}
 use Rattle.rules.proofs.Stages.{ended-view}
 
-pub coop-term : COOP ≢ TERM
+pub coop-term : {w : Pause} → COOP w ≢ TERM
 coop-term e = true≢false (cc)
 
 pub cont-term : CONT ≢ TERM
@@ -64,27 +65,29 @@ module _ (s : State) (ms : Marks) where
   Idle i α j = ⟨ i & view s ms ⟩⟶[ α ]⟨ j & view s ms ⟩
 
   -- what a try comes to where what it asks for is there, is missing when the round is being closed, and is missing before
-  pub record Tried (there : Bool) (i later : Instruction) : Type 0 where
+  pub record Tried (there : Bool) (i later : Instruction) (w : Pause) : Type 0 where
     pub found : there ≡ true → Idle i TERM nothing
-    pub rests : there ≡ false → s .eoi ≡ true → Idle i COOP later
+    pub rests : there ≡ false → s .eoi ≡ true → Idle i (COOP w) later
     pub again : there ≡ false → s .eoi ≡ false → Idle i CONT i
 
-  tried-await : (e : Event) → Tried (isPresent e (view s ms)) (await e) (await e)
+  tried-await : (p : ℕ) (e : Event) → Tried (isPresent e (view s ms)) (await p e) (await p e) (misses p)
   unfolding view
-  tried-await e = record { found = λ p. rule14 p; rests = λ p o. rule16 p o; again = λ p o. rule15 p o }
+  tried-await p e = record { found = λ p. rule14 p; rests = λ p o. rule16 p o; again = λ p o. rule15 p o }
 
-  tried-awaitN : (e : Event) (k : ℕ) → 0 < k → Tried (isPresent e (view s ms)) (awaitN e k) (awaitN e (k - 1))
+  tried-awaitN :
+      (p : ℕ) (e : Event) (k : ℕ) → 0 < k →
+      Tried (isPresent e (view s ms)) (awaitN p e k) (awaitN p e (k - 1)) (missesFor p (k - 1))
   unfolding view
-  tried-awaitN e k h = record { found = λ p. rule25 (inl p); rests = λ p o. rule27 p h o; again = λ p o. rule26 p h o }
+  tried-awaitN p e k h = record { found = λ p. rule25 (inl p); rests = λ p o. rule27 p h o; again = λ p o. rule26 p h o }
 
   -- a join of t, by what an await of term(t) comes to
   tried-end :
-      (t : ℕ) {i later j after : Instruction} → Tried (isPresent (term t) (view s ms)) i later →
+      (t : ℕ) {i later j after : Instruction} {w : Pause} → Tried (isPresent (term t) (view s ms)) i later w →
       (HasEnded t (view s ms) → Idle j TERM nothing) →
       (NotEnded t (view s ms) → Idle i TERM nothing → Idle j TERM nothing) →
-      (NotEnded t (view s ms) → Idle i COOP later → Idle j COOP after) →
+      (NotEnded t (view s ms) → Idle i (COOP w) later → Idle j (COOP w) after) →
       (NotEnded t (view s ms) → Idle i CONT i → Idle j CONT j) →
-      Tried (isThere s (end t)) j after
+      Tried (isThere s (end t)) j after w
   tried-end t w over found rests again =
       record {
         found = λ h. elim (end-found t h) [ inl e ↦ over e | inr e ↦ found (e .0) (w .found (e .1)) ];
@@ -92,18 +95,20 @@ module _ (s : State) (ms : Marks) where
         again = λ h o. let e = end-missing t h in again (e .0) (w .again (e .1) o);
       }
 
-  pub tried-wait : (e : ℕ) → Tried (isThere s (thing.signal e)) (await (signal e)) (await (signal e))
-  tried-wait e = rw (signal-there e) (tried-await (signal e))
+  pub tried-wait : (p e : ℕ) → Tried (isThere s (thing.signal e)) (await p (signal e)) (await p (signal e)) (misses p)
+  tried-wait p e = rw (signal-there e) (tried-await p (signal e))
 
-  pub tried-wait-for : (e k : ℕ) → 0 < k → Tried (isThere s (thing.signal e)) (awaitN (signal e) k) (awaitN (signal e) (k - 1))
-  tried-wait-for e k h = rw (signal-there e) (tried-awaitN (signal e) k h)
+  pub tried-wait-for :
+      (p e k : ℕ) → 0 < k →
+      Tried (isThere s (thing.signal e)) (awaitN p (signal e) k) (awaitN p (signal e) (k - 1)) (missesFor p (k - 1))
+  tried-wait-for p e k h = rw (signal-there e) (tried-awaitN p (signal e) k h)
 
-  pub tried-join : (t : ℕ) → Tried (isThere s (end t)) (join t) (join t)
-  tried-join t =
-      tried-end t (tried-await (term t))
+  pub tried-join : (p t : ℕ) → Tried (isThere s (end t)) (join p t) (join p t) (misses p)
+  tried-join p t =
+      tried-end t (tried-await p (term t))
       (λ e. rule17 e) (λ e a. rule18 e a) (λ e a. rule18-again e a coop-term) (λ e a. rule18-again e a cont-term)
 
-  pub tried-join-for : (t k : ℕ) → 0 < k → Tried (isThere s (end t)) (joinN t k) (joinN t (k - 1))
-  tried-join-for t k h =
-      tried-end t (tried-awaitN (term t) k h)
+  pub tried-join-for : (p t k : ℕ) → 0 < k → Tried (isThere s (end t)) (joinN p t k) (joinN p t (k - 1)) (missesFor p (k - 1))
+  tried-join-for p t k h =
+      tried-end t (tried-awaitN p (term t) k h)
       (λ e. rule28 (inl e)) (λ e a. rule29 e a) (λ e a. rule29-again e a coop-term) (λ e a. rule29-again e a cont-term)

@@ -19,16 +19,24 @@ use Rattle.round.specs.State.{State}
 use Rattle.round.specs.Jumps.{sizeOf}
 use Rattle.round.specs.Ticks.{Tick, fresh, tick, tickAt}
 use Rattle.round.proofs.Leads.{formAt}
-use Rattle.rules.specs.Instructions.{TERM, Instruction, nothing}
+use Rattle.rules.specs.Instructions.{Status, TERM, Instruction, nothing}
 use Rattle.rules.specs.Schedulers.{Scheduler}
 use Rattle.rules.specs.Rules.{⟨_&_⟩⟶[_]⟨_&_⟩}
 use Rattle.rules.specs.Residual.{leftOfBlock, _⇝_, same}
 use Rattle.rules.specs.View.{view}
-use Rattle.rules.proofs.Walks.{Marks, Ends, halts, goes, statusAfter}
+use Rattle.rules.proofs.Walks.{Marks, Shows, endsAs, Ends, halts, goes}
 use Rattle.rules.proofs.Nothings.{transitive, follows}
 use Rattle.rules.proofs.Places.{block-end}
 use Rattle.rules.proofs.Outcomes.{OfBlock, within, passes}
 use Rattle.rules.proofs.Blocks.{block-claim}
+
+-- i goes by the rules to what stands for `left`, with the status of a turn that ends with h at position y
+pub record RunsTo (size : ℕ) (h : Ending) (y : Position) (i : Instruction) (σ τ : Scheduler) (left : Instruction) : Type 0 where
+  pub after : Instruction
+  pub status : Status
+  pub rule : ⟨ i & σ ⟩⟶[ status ]⟨ after & τ ⟩
+  pub shows : Shows size y h status
+  pub leaves : after ⇝ left
 
 module _ (counts : Counts) (r : ℕ) (steps : List ℕ) where
   abbrev stepOf : ℕ → Step
@@ -44,12 +52,9 @@ module _ (counts : Counts) (r : ℕ) (steps : List ℕ) where
     quits x s l = ap (λ (a : Step). tickAt r steps x s a .act) (step-missing counts steps (x .place) (omega arith))
 
     module _ (h : Ending) (y : Position) (u : State) (us : Marks) {d : ℕ} (b : ParsedBlock at d 0 (sizeOf steps)) where
-      -- i goes by the rules, with the turn's status, to what is left of the routine at y
+      -- to what is left of the routine at y
       abbrev ByRules : Instruction → Scheduler → Type 0
-      ByRules i σ =
-          (i′ : Instruction)
-          × ⟨ i & σ ⟩⟶[ statusAfter h ]⟨ i′ & view u us ⟩
-          × (i′ ⇝ leftOfBlock r stepOf b y)
+      ByRules i σ = RunsTo (sizeOf steps) h y i σ (view u us) (leftOfBlock r stepOf b y)
 
       past-last :
           {m : ℕ} {i : Instruction} {σ : Scheduler} {x : Position} {v : State} {vs : Marks} →
@@ -59,7 +64,13 @@ module _ (counts : Counts) (r : ℕ) (steps : List ℕ) where
           let how : h ≡ Ended = cc in
           let there : y ≡ fresh (sizeOf steps) = cc in
           let p : y .place ≡ sizeOf steps = ap (λ (z : Position). z .place) there in
-          (nothing, rw how run, rw (block-end r stepOf b y p) same)
+          record {
+            after = nothing;
+            status = TERM;
+            rule = run;
+            shows = rw how (endsAs there);
+            leaves = rw (block-end r stepOf b y p) same;
+          }
       past-last {x = x} {v = v} l run (goes f e t) =
           let q = sym (ap (λ (a : Tick). a .act) e) ∙ quits x v l in
           let z : _≡_ {A = ℕ} 0 1 = cc in
@@ -67,17 +78,15 @@ module _ (counts : Counts) (r : ℕ) (steps : List ℕ) where
 
       whole : {n : ℕ} {i : Instruction} {s : State} {ms : Marks} →
           OfBlock counts r steps h y u us i (leftOfBlock r stepOf b) 0 (sizeOf steps) n s ms → ByRules i (view s ms)
-      whole (within run on w l m) = (_, run, w)
+      whole (within run on w l m) = record { after = _; status = _; rule = run; shows = on .1; leaves = w }
       whole (passes m x v vs run l e t) = past-last e run t
 
     pub steps-by-rules :
         {h : Ending} {y : Position} {u : State} {us : Marks} {d : ℕ} (b : ParsedBlock at d 0 (sizeOf steps))
         (n : ℕ) (x : Position) (s : State) (ms : Marks) (i : Instruction) →
         x .place ≤ sizeOf steps → i ⇝ leftOfBlock r stepOf b x → Ends counts r steps h y u us n x s ms →
-        (i′ : Instruction)
-        × ⟨ i & view s ms ⟩⟶[ statusAfter h ]⟨ i′ & view u us ⟩
-        × (i′ ⇝ leftOfBlock r stepOf b y)
+        RunsTo (sizeOf steps) h y i (view s ms) (view u us) (leftOfBlock r stepOf b y)
     steps-by-rules {h} {y} {u} {us} b n x s ms i l w t =
-        let (j, run, there) = whole h y u us b (block-claim counts r steps few h y u us b n x s ms (omega arith) l t) in
-        let (k, alike, left) = follows w run in
-        (k, alike, transitive left there)
+        let to = whole h y u us b (block-claim counts r steps few h y u us b n x s ms (omega arith) l t) in
+        let (k, alike, left) = follows w (to .rule) in
+        record { after = k; status = to .status; rule = alike; shows = to .shows; leaves = transitive left (to .leaves) }

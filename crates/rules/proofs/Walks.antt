@@ -3,6 +3,7 @@
 use Prim.Native.Nat.{ℕ, suc}
 use mathlib.Core.Path.{_≡_}
 use mathlib.Core.List.{List, _++_}
+use mathlib.Core.Logic.{_≢_}
 use lib.ListN.{length}
 use lib.IntN.{ℤ}
 use Rattle.kinds.specs.declared.Counts.{Counts}
@@ -16,7 +17,8 @@ use Rattle.round.specs.declared.Act.the-variants.{Goes, Halts}
 use Rattle.round.specs.State.{State, Happening}
 use Rattle.round.specs.Ticks.{telling, tick, fresh, effectOn}
 use Rattle.round.specs.Answers.{marksIn}
-use Rattle.rules.specs.Instructions.{Status, TERM, COOP, CONT}
+use Rattle.rules.specs.Instructions.{Pause, Status, TERM, COOP, CONT}
+use Rattle.rules.specs.Positions.{pausedAt}
 
 abbrev pub Marks : Type 0
 Marks = List (ℕ × ℤ)
@@ -26,12 +28,16 @@ pub record HasRoom (routines : ℕ) (s : State) : Type 0 where
   pub starting : LineRight (s .game .starting) routines
   pub items : length (s .game .starting .items) ≡ mostEntries
 
--- the status of a routine behind a turn
-abbrev pub statusAfter : Ending → Status
-statusAfter Ended = TERM
-statusAfter Rested = COOP
-statusAfter Missed = COOP
-statusAfter Continued = CONT
+-- the status of a turn of a routine with so many steps that ends so at position y; one that is to be continued says nothing of the position
+pub data Shows (size : ℕ) (y : Position) : Ending → Status → Type 0 where
+  endsAs : y ≡ fresh size → Shows size y Ended TERM
+  restsAs : (w : Pause) → y ≡ pausedAt w → Shows size y Rested (COOP w)
+  missesAs : (w : Pause) → y ≡ pausedAt w → Shows size y Missed (COOP w)
+  continuesAs : Shows size y Continued CONT
+
+-- the same of a step that halts the turn before the routine's end
+abbrev pub HaltsAs : ℕ → Position → Ending → Status → Type 0
+HaltsAs size y h α = (α ≢ TERM) × Shows size y h α
 
 -- a routine of a book
 module _ (counts : Counts) (r : ℕ) (steps : List ℕ) where

@@ -1,5 +1,5 @@
 -- Rules 33 to 38 of the paper, and section 5.4: threads, execution steps, instants, and how they follow each other.
-use Prim.Native.Nat.{ℕ, suc}
+use Prim.Native.Nat.{ℕ}
 use mathlib.Core.Path.{_≡_}
 use mathlib.Core.Bool.{Bool, true, false, _&&_, _||_, not}
 use mathlib.Core.List.{List, [], _∷_, _++_, map, zipWith}
@@ -8,8 +8,8 @@ use lib.Dec.{eqb}
 use lib.ListN.{set}
 use Rattle.numbers.specs.Choice.{if_then_else_}
 use Rattle.rules.specs.Instructions.{Status, TERM, COOP, CONT, term, Instruction}
-use Rattle.rules.specs.Schedulers.{Stage, notStarted, is, stopped, Scheduler, withActual, withCurrent, withOrders, withThreads}
-use Rattle.rules.specs.Schedulers.{has, statusOf, moved, withEvent}
+use Rattle.rules.specs.Schedulers.{Stage, notStarted, continuing, rested, ended, stopped, stageBy, Scheduler, withActual}
+use Rattle.rules.specs.Schedulers.{withCurrent, withOrders, withThreads, has, statusOf, moved, withEvent}
 use Rattle.rules.specs.Rules.{⟨_&_⟩⟶[_]⟨_&_⟩}
 
 -- t[run := inst], for the instructions of all threads
@@ -18,47 +18,62 @@ runs run t inst u = if eqb u t then inst else run u
 
 -- t[status := α]
 abbrev pub withStatus : ℕ → Status → Scheduler → Scheduler
-withStatus t α σ = withThreads σ (record { status = set (σ .threads .status) t (is α); susp = σ .threads .susp })
+withStatus t α σ = withThreads σ (record { status = set (σ .threads .status) t (stageBy α); susp = σ .threads .susp })
 
 -- sched″ of rule 34: sched′[events += term(t)][move := true] if α = TERM, and sched′ otherwise
 abbrev pub withTermination : Status → ℕ → Scheduler → Scheduler
 withTermination TERM t σ = moved (withEvent (term t) σ)
-withTermination COOP t σ = σ
+withTermination (COOP w) t σ = σ
 withTermination CONT t σ = σ
 
--- b of rule 34: false if α = CONT, and true otherwise
-abbrev pub isFinished : Status → Bool
-isFinished TERM = true
-isFinished COOP = true
-isFinished CONT = false
+-- what a thread does in an execution step: by rule 33 nothing, by rule 34 it runs, with this status
+pub data Execution : Type 0 where
+  skipped : Execution
+  executed : Status → Execution
 
--- 5.1 Thread: what the thread t does; run gives each thread's instruction, and b is the Boolean above the arrow. The paper's env″ in rule
+-- b of rules 33 and 34: false if α = CONT, and true otherwise
+abbrev pub isFinished : Execution → Bool
+isFinished skipped = true
+isFinished (executed TERM) = true
+isFinished (executed (COOP w)) = true
+isFinished (executed CONT) = false
+
+-- 5.1 Thread: what the thread t does, which is above the arrow in place of b; run gives each thread's instruction. The paper's env″ in rule
 -- 34 is its env′.
-pub data Thread (t : ℕ) : (ℕ → Instruction) → Scheduler → Bool → (ℕ → Instruction) → Scheduler → Type 0 where
+pub data Thread (t : ℕ) : (ℕ → Instruction) → Scheduler → Execution → (ℕ → Instruction) → Scheduler → Type 0 where
   rule33 :
       {run : ℕ → Instruction} {σ : Scheduler} →
-      (has (σ .threads .susp) t ≡ true) ⊎ (statusOf σ t ≢ is CONT) →
-      Thread t run σ true run σ
+      (has (σ .threads .susp) t ≡ true) ⊎ (statusOf σ t ≢ continuing) →
+      Thread t run σ skipped run σ
   rule34 :
       {run : ℕ → Instruction} {inst : Instruction} {σ σ′ : Scheduler} {α : Status} →
-      has (σ .threads .susp) t ≡ false → statusOf σ t ≡ is CONT → ⟨ run t & σ ⟩⟶[ α ]⟨ inst & σ′ ⟩ →
-      Thread t run σ (isFinished α) (runs run t inst) (withTermination α t (withStatus t α σ′))
+      has (σ .threads .susp) t ≡ false → statusOf σ t ≡ continuing → ⟨ run t & σ ⟩⟶[ α ]⟨ inst & σ′ ⟩ →
+      Thread t run σ (executed α) (runs run t inst) (withTermination α t (withStatus t α σ′))
 
--- threads in turn, and whether all have finished
-pub data InTurn : List ℕ → (ℕ → Instruction) → Scheduler → Bool → (ℕ → Instruction) → Scheduler → Type 0 where
-  none : {run : ℕ → Instruction} {σ : Scheduler} → InTurn [] run σ true run σ
+-- what each thread does in an execution step, in turn
+abbrev pub StepLog : Type 0
+StepLog = List (ℕ × Execution)
+
+-- b of rules 35 and 36: "the boolean b is true if all threads have finished their execution for the current instant"
+unfoldable pub allFinished : StepLog → Bool
+allFinished [] = true
+allFinished ((t, x) ∷ l) = isFinished x && allFinished l
+
+-- threads in turn
+pub data InTurn : List ℕ → (ℕ → Instruction) → Scheduler → StepLog → (ℕ → Instruction) → Scheduler → Type 0 where
+  none : {run : ℕ → Instruction} {σ : Scheduler} → InTurn [] run σ [] run σ
   next :
-      {t : ℕ} {ts : List ℕ} {run run′ run″ : ℕ → Instruction} {σ σ′ σ″ : Scheduler} {b c : Bool} →
-      Thread t run σ b run′ σ′ → InTurn ts run′ σ′ c run″ σ″ →
-      InTurn (t ∷ ts) run σ (b && c) run″ σ″
+      {t : ℕ} {ts : List ℕ} {run run′ run″ : ℕ → Instruction} {σ σ′ σ″ : Scheduler} {x : Execution} {l : StepLog} →
+      Thread t run σ x run′ σ′ → InTurn ts run′ σ′ l run″ σ″ →
+      InTurn (t ∷ ts) run σ ((t, x) ∷ l) run″ σ″
 
 -- 5.2 Scheduler Execution Step; where rule 36 writes inst, the thread is meant
-pub data ExecutionStep : (ℕ → Instruction) → Scheduler → Bool → (ℕ → Instruction) → Scheduler → Type 0 where
-  rule35 : {run : ℕ → Instruction} {σ : Scheduler} → σ .actual ≡ [] → ExecutionStep run σ true run σ
+pub data ExecutionStep : (ℕ → Instruction) → Scheduler → StepLog → (ℕ → Instruction) → Scheduler → Type 0 where
+  rule35 : {run : ℕ → Instruction} {σ : Scheduler} → σ .actual ≡ [] → ExecutionStep run σ [] run σ
   rule36 :
-      {t : ℕ} {ts : List ℕ} {run run′ : ℕ → Instruction} {σ σ′ : Scheduler} {b : Bool} →
-      σ .actual ≡ t ∷ ts → InTurn (t ∷ ts) run σ b run′ σ′ →
-      ExecutionStep run σ b run′ σ′
+      {t : ℕ} {ts : List ℕ} {run run′ : ℕ → Instruction} {σ σ′ : Scheduler} {l : StepLog} →
+      σ .actual ≡ t ∷ ts → InTurn (t ∷ ts) run σ l run′ σ′ →
+      ExecutionStep run σ l run′ σ′
 
 -- sched″ of rule 38: move = false; eoi = true if sched′.move = false, and eoi = false otherwise. Document 01: "Section 3.2 speaks of a
 -- third cycle for two routines that signal each other; rules 36 and 38 need two."
@@ -69,13 +84,20 @@ again σ =
     record { events = c .events; terms = c .terms; values = c .values; eoi = not (c .move); move = false }
     )
 
--- 5.3 Instant; the number counts its execution steps
-pub data Instant : ℕ → (ℕ → Instruction) → Scheduler → (ℕ → Instruction) → Scheduler → Type 0 where
-  rule37 : {run run′ : ℕ → Instruction} {σ σ′ : Scheduler} → ExecutionStep run σ true run′ σ′ → Instant 1 run σ run′ σ′
+-- the log of an instant, one of each of its execution steps
+abbrev pub Log : Type 0
+Log = List StepLog
+
+-- 5.3 Instant
+pub data Instant : Log → (ℕ → Instruction) → Scheduler → (ℕ → Instruction) → Scheduler → Type 0 where
+  rule37 :
+      {l : StepLog} {run run′ : ℕ → Instruction} {σ σ′ : Scheduler} →
+      ExecutionStep run σ l run′ σ′ → allFinished l ≡ true →
+      Instant (l ∷ []) run σ run′ σ′
   rule38 :
-      {n : ℕ} {run run′ run″ : ℕ → Instruction} {σ σ′ σ″ : Scheduler} →
-      ExecutionStep run σ false run′ σ′ → Instant n run′ (again σ′) run″ σ″ →
-      Instant (suc n) run σ run″ σ″
+      {l : StepLog} {log : Log} {run run′ run″ : ℕ → Instruction} {σ σ′ σ″ : Scheduler} →
+      ExecutionStep run σ l run′ σ′ → allFinished l ≡ false → Instant log run′ (again σ′) run″ σ″ →
+      Instant (l ∷ log) run σ run″ σ″
 
 -- those of some threads that pass a test
 unfoldable pub only : (ℕ → Bool) → List ℕ → List ℕ
@@ -90,9 +112,9 @@ allAt x (t ∷ ts) l = allAt x ts (set l t x)
 -- CONT or COOP: document 01's stages 1 and 2
 abbrev pub isUnderWay : Stage → Bool
 isUnderWay notStarted = false
-isUnderWay (is TERM) = false
-isUnderWay (is COOP) = true
-isUnderWay (is CONT) = true
+isUnderWay continuing = true
+isUnderWay rested = true
+isUnderWay ended = false
 isUnderWay stopped = false
 
 -- an empty set, with as many flags
@@ -110,7 +132,7 @@ withSusp σ l = withThreads σ (record { status = σ .threads .status; susp = l 
 abbrev pub action1 : Scheduler → Scheduler
 action1 σ =
     let starts = σ .orders .toStart in
-    withStatuses (withActual σ (σ .actual ++ starts)) (allAt (is CONT) starts (σ .threads .status))
+    withStatuses (withActual σ (σ .actual ++ starts)) (allAt continuing starts (σ .threads .status))
 
 -- Action 2: "replace events by to_broadcast"; so term(t) is there for no thread t, one flag for each, whatever an earlier round left
 abbrev pub action2 : Scheduler → Scheduler
@@ -144,16 +166,16 @@ action5 σ = withSusp σ (zipWith _||_ (σ .threads .susp) (σ .orders .toSuspen
 -- t.status is TERM, as action 6 asks
 abbrev pub isTerminated : Stage → Bool
 isTerminated notStarted = false
-isTerminated (is TERM) = true
-isTerminated (is COOP) = false
-isTerminated (is CONT) = false
+isTerminated continuing = false
+isTerminated rested = false
+isTerminated ended = true
 isTerminated stopped = false
 
 -- Action 6: "for each thread t ∈ actual, remove it if t.status is TERM, and otherwise set t.status to CONT"
 abbrev pub action6 : Scheduler → Scheduler
 action6 σ =
     let others = only (λ t. not (isTerminated (statusOf σ t))) (σ .actual) in
-    withStatuses (withActual σ others) (allAt (is CONT) others (σ .threads .status))
+    withStatuses (withActual σ others) (allAt continuing others (σ .threads .status))
 
 -- Action 7: "set the flag eoi to false"
 abbrev pub action7 : Scheduler → Scheduler
@@ -193,5 +215,5 @@ unmoved σ =
     )
 
 -- "round = one chaining step and then one instant"
-abbrev pub Round : ℕ → (ℕ → Instruction) → Scheduler → (ℕ → Instruction) → Scheduler → Type 0
-Round n run σ run′ σ′ = Instant n run (unmoved (chained σ)) run′ σ′
+abbrev pub Round : Log → (ℕ → Instruction) → Scheduler → (ℕ → Instruction) → Scheduler → Type 0
+Round log run σ run′ σ′ = Instant log run (unmoved (chained σ)) run′ σ′

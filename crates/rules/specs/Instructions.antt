@@ -2,10 +2,22 @@
 use Prim.Native.Nat.{ℕ}
 use lib.IntN.{ℤ}
 
+-- How a thread pauses: document 01's ways to rest, each with the place of its step in the book and, if timed, what is left of its count.
+pub data Pause : Type 0 where
+  -- "6 rest" and "7 rest n"
+  rests : ℕ → Pause
+  restsFor : ℕ → ℕ → Pause
+  -- what a wait or join, a timed one or a reading asks for is missing when the round is being closed
+  misses : ℕ → Pause
+  missesFor : ℕ → ℕ → Pause
+  unread : ℕ → Pause
+
 -- 2.1: "Status is TERM when the thread is totally terminated; it is COOP when the thread cooperates", and CONT when "execution has to be
--- continued during the current instant".
+-- continued during the current instant". Of a thread that cooperates the pause is told too.
 pub data Status : Type 0 where
-  TERM COOP CONT : Status
+  TERM : Status
+  COOP : Pause → Status
+  CONT : Status
 
 -- an event of the program, or term(t), "used to signal the total termination of t"
 pub data Event : Type 0 where
@@ -25,6 +37,7 @@ pub record Expression : Type 0 where
   pub relation : ℕ
   pub number : ℤ
 
+-- An instruction at which a thread may pause has the place of its step in front.
 infixr 5 _then_
 pub data Instruction : Type 0 where
   -- "nothing is the instruction that does nothing" (section 4.1)
@@ -37,19 +50,19 @@ pub data Instruction : Type 0 where
   whileInst : Expression → Instruction → Instruction → Instruction
   ifElse : Expression → Instruction → Instruction → Instruction
   -- synchronizing instructions; the value generated is a counter's content
-  cooperate : Instruction
-  await : Event → Instruction
+  cooperate : ℕ → Instruction
+  await : ℕ → Event → Instruction
   generate : ℕ → Instruction
   generateValue : ℕ → ℕ → Instruction
-  join : ℕ → Instruction
+  join : ℕ → ℕ → Instruction
   -- control instructions
   create : ℕ → Instruction
   stop : ℕ → Instruction
   suspend : ℕ → Instruction
   resume : ℕ → Instruction
   -- timed instructions; a number of 0 or less is 0
-  cooperateN : ℕ → Instruction
-  awaitN : Event → ℕ → Instruction
-  joinN : ℕ → ℕ → Instruction
+  cooperateN : ℕ → ℕ → Instruction
+  awaitN : ℕ → Event → ℕ → Instruction
+  joinN : ℕ → ℕ → ℕ → Instruction
   -- the event, the counter that takes the value, k; the thread, which the paper names too, is the one that runs it
-  getValue : ℕ → ℕ → ℕ → Instruction
+  getValue : ℕ → ℕ → ℕ → ℕ → Instruction

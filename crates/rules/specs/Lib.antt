@@ -4,4 +4,6 @@ pub mod Rules
 pub mod Instants
 pub mod Residual
 pub mod View
+pub mod Positions
 pub mod Claims
+pub mod Examples

@@ -3,7 +3,6 @@
 -- stayed missing, leaves the place on the step that follows it in the book; every other pause leaves it on its own step. An ended routine's
 -- place is its step count. Begun is set when op 7, 9 or 11 pauses, and cleared when that step is past."
 use Prim.Native.Nat.{ℕ, _<_}
-use mathlib.Core.Bool.{false}
 use mathlib.Core.List.{List}
 use lib.Dec.{eqb, ltb}
 use lib.IntN.{pos}
@@ -19,14 +18,11 @@ use Rattle.layout.specs.Layout.{routinesOf, countsOf}
 use Rattle.directory.specs.Directory.{routineSteps}
 use Rattle.book.specs.Accepted.{Accepted}
 use Rattle.round.specs.declared.Position.{Position}
+use Rattle.round.specs.Ticks.{fresh, countAt}
 use Rattle.rules.specs.Instructions.{signal, mark, set, add, take, Expression, Instruction, nothing, call, _then_, while, whileInst}
 use Rattle.rules.specs.Instructions.{cooperate, await, generate, generateValue, join, create, stop, suspend, resume, cooperateN}
 use Rattle.rules.specs.Instructions.{awaitN, joinN, getValue}
 use Rattle.rules.specs.Instructions as paper
-
--- a timed step that is begun has the count left, and otherwise its own
-abbrev pub leftOr : Position → ℕ → ℕ
-leftOr x n = if x .begun then x .left else n
 
 -- document 01's table of kinds, in the paper's words; a step that holds blocks, or a marker, is no instruction by itself
 abbrev pub instruction : ℕ → Position → Kind → Instruction
@@ -36,13 +32,13 @@ instruction r x (kind.Add c n) = call (add c n)
 instruction r x (kind.Take c d) = call (take c d)
 instruction r x (kind.Signal e) = generate e
 instruction r x (kind.SignalNumber e c) = generateValue e c
-instruction r x kind.Rest = cooperate
-instruction r x (kind.RestFor n) = cooperateN (leftOr x n)
-instruction r x (kind.Wait e) = await (signal e)
-instruction r x (kind.WaitFor e n) = awaitN (signal e) (leftOr x n)
-instruction r x (kind.Join t) = join t
-instruction r x (kind.JoinFor t n) = joinN t (leftOr x n)
-instruction r x (kind.Read e c k) = getValue e c k
+instruction r x kind.Rest = cooperate (x .place)
+instruction r x (kind.RestFor n) = cooperateN (x .place) (countAt x n)
+instruction r x (kind.Wait e) = await (x .place) (signal e)
+instruction r x (kind.WaitFor e n) = awaitN (x .place) (signal e) (countAt x n)
+instruction r x (kind.Join t) = join (x .place) t
+instruction r x (kind.JoinFor t n) = joinN (x .place) t (countAt x n)
+instruction r x (kind.Read e c k) = getValue (x .place) e c k
 instruction r x (kind.Start t) = create t
 instruction r x (kind.Stop t) = stop t
 instruction r x (kind.Suspend t) = suspend t
@@ -86,10 +82,6 @@ test kind.End = noTest
 abbrev pub testOf : Step → Expression
 testOf (step.Kind k) = test k
 testOf step.Refused = noTest
-
--- a place with nothing begun
-abbrev pub fresh : ℕ → Position
-fresh p = record { place = p; begun = false; left = 0 }
 
 -- routine r, whose step at each place is known
 module _ (r : ℕ) (stepOf : ℕ → Step) {at : ℕ → View} where

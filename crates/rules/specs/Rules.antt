@@ -6,7 +6,8 @@ use mathlib.Core.Bool.{true, false}
 use mathlib.Core.Logic.{_≢_, _⊎_}
 use lib.ListN.{length}
 use Rattle.numbers.specs.Relations.{Holds}
-use Rattle.rules.specs.Instructions.{Status, TERM, COOP, CONT, Event, signal, term, Call, Expression, Instruction, nothing, call}
+use Rattle.rules.specs.Instructions.{rests, restsFor, misses, missesFor, unread, Status, TERM, COOP, CONT, Event, signal, term}
+use Rattle.rules.specs.Instructions.{Call, Expression, Instruction, nothing, call}
 use Rattle.rules.specs.Instructions.{_then_, while, whileInst, ifElse, cooperate, await, generate, generateValue, join, create, stop}
 use Rattle.rules.specs.Instructions.{suspend, resume, cooperateN, awaitN, joinN, getValue}
 use Rattle.rules.specs.Schedulers.{Scheduler, statusOf, hasEnded, isPresent, moved, withEvent, withValue, valuesOf, content}
@@ -67,28 +68,34 @@ pub data ⟨_&_⟩⟶[_]⟨_&_⟩ : Instruction → Scheduler → Status → Ins
       (IsTrue x σ → ⊥) → ⟨ j & σ ⟩⟶[ α ]⟨ j′ & σ′ ⟩ →
       ⟨ ifElse x i j & σ ⟩⟶[ α ]⟨ j′ & σ′ ⟩
   -- 4.5 Cooperate
-  rule11 : {σ : Scheduler} → ⟨ cooperate & σ ⟩⟶[ COOP ]⟨ nothing & σ ⟩
+  rule11 : {p : ℕ} {σ : Scheduler} → ⟨ cooperate p & σ ⟩⟶[ COOP (rests p) ]⟨ nothing & σ ⟩
   -- 4.6 Generate
   rule12 : {e : ℕ} {σ : Scheduler} → ⟨ generate e & σ ⟩⟶[ TERM ]⟨ nothing & moved (withEvent (signal e) σ) ⟩
   rule13 :
       {e c : ℕ} {σ : Scheduler} →
       ⟨ generateValue e c & σ ⟩⟶[ TERM ]⟨ nothing & withValue e (content σ c) (moved (withEvent (signal e) σ)) ⟩
   -- 4.7 Await
-  rule14 : {e : Event} {σ : Scheduler} → Present e σ → ⟨ await e & σ ⟩⟶[ TERM ]⟨ nothing & σ ⟩
-  rule15 : {e : Event} {σ : Scheduler} → Absent e σ → σ .current .eoi ≡ false → ⟨ await e & σ ⟩⟶[ CONT ]⟨ await e & σ ⟩
-  rule16 : {e : Event} {σ : Scheduler} → Absent e σ → σ .current .eoi ≡ true → ⟨ await e & σ ⟩⟶[ COOP ]⟨ await e & σ ⟩
+  rule14 : {p : ℕ} {e : Event} {σ : Scheduler} → Present e σ → ⟨ await p e & σ ⟩⟶[ TERM ]⟨ nothing & σ ⟩
+  rule15 :
+      {p : ℕ} {e : Event} {σ : Scheduler} →
+      Absent e σ → σ .current .eoi ≡ false →
+      ⟨ await p e & σ ⟩⟶[ CONT ]⟨ await p e & σ ⟩
+  rule16 :
+      {p : ℕ} {e : Event} {σ : Scheduler} →
+      Absent e σ → σ .current .eoi ≡ true →
+      ⟨ await p e & σ ⟩⟶[ COOP (misses p) ]⟨ await p e & σ ⟩
   -- 4.8 Join. Rule 18 is in two parts, since document 01 reads it otherwise where the wait goes on: "A join left waiting asks again at
   -- every try, by rules 17 and 28, whether the routine has ended. Rules 18 and 29 taken literally would leave only the wait for the end
   -- signal".
-  rule17 : {t : ℕ} {σ : Scheduler} → HasEnded t σ → ⟨ join t & σ ⟩⟶[ TERM ]⟨ nothing & σ ⟩
+  rule17 : {p t : ℕ} {σ : Scheduler} → HasEnded t σ → ⟨ join p t & σ ⟩⟶[ TERM ]⟨ nothing & σ ⟩
   rule18 :
-      {t : ℕ} {i : Instruction} {σ σ′ : Scheduler} →
-      NotEnded t σ → ⟨ await (term t) & σ ⟩⟶[ TERM ]⟨ i & σ′ ⟩ →
-      ⟨ join t & σ ⟩⟶[ TERM ]⟨ i & σ′ ⟩
+      {p t : ℕ} {i : Instruction} {σ σ′ : Scheduler} →
+      NotEnded t σ → ⟨ await p (term t) & σ ⟩⟶[ TERM ]⟨ i & σ′ ⟩ →
+      ⟨ join p t & σ ⟩⟶[ TERM ]⟨ i & σ′ ⟩
   rule18-again :
-      {t : ℕ} {i : Instruction} {σ σ′ : Scheduler} {α : Status} →
-      NotEnded t σ → ⟨ await (term t) & σ ⟩⟶[ α ]⟨ i & σ′ ⟩ → α ≢ TERM →
-      ⟨ join t & σ ⟩⟶[ α ]⟨ join t & σ′ ⟩
+      {p t : ℕ} {i : Instruction} {σ σ′ : Scheduler} {α : Status} →
+      NotEnded t σ → ⟨ await p (term t) & σ ⟩⟶[ α ]⟨ i & σ′ ⟩ → α ≢ TERM →
+      ⟨ join p t & σ ⟩⟶[ α ]⟨ join p t & σ′ ⟩
   -- 4.9 Create, 4.10 Stop, 4.11 Suspend, 4.12 Resume. Document 01 on rule 19: "A start of a routine that isn't in stage 0, or is already to
   -- start, adds nothing."
   rule19 : {t : ℕ} {σ : Scheduler} → ⟨ create t & σ ⟩⟶[ TERM ]⟨ nothing & withStart t σ ⟩
@@ -96,39 +103,39 @@ pub data ⟨_&_⟩⟶[_]⟨_&_⟩ : Instruction → Scheduler → Status → Ins
   rule21 : {t : ℕ} {σ : Scheduler} → ⟨ suspend t & σ ⟩⟶[ TERM ]⟨ nothing & withSuspend t σ ⟩
   rule22 : {t : ℕ} {σ : Scheduler} → ⟨ resume t & σ ⟩⟶[ TERM ]⟨ nothing & withResume t σ ⟩
   -- 4.13 Cooperate_n
-  rule23 : {k : ℕ} {σ : Scheduler} → k ≤ 0 → ⟨ cooperateN k & σ ⟩⟶[ TERM ]⟨ nothing & σ ⟩
-  rule24 : {k : ℕ} {σ : Scheduler} → 0 < k → ⟨ cooperateN k & σ ⟩⟶[ COOP ]⟨ cooperateN (k - 1) & σ ⟩
+  rule23 : {p k : ℕ} {σ : Scheduler} → k ≤ 0 → ⟨ cooperateN p k & σ ⟩⟶[ TERM ]⟨ nothing & σ ⟩
+  rule24 : {p k : ℕ} {σ : Scheduler} → 0 < k → ⟨ cooperateN p k & σ ⟩⟶[ COOP (restsFor p (k - 1)) ]⟨ cooperateN p (k - 1) & σ ⟩
   -- 4.14 Await_n
-  rule25 : {e : Event} {k : ℕ} {σ : Scheduler} → Present e σ ⊎ (k ≤ 0) → ⟨ awaitN e k & σ ⟩⟶[ TERM ]⟨ nothing & σ ⟩
+  rule25 : {p k : ℕ} {e : Event} {σ : Scheduler} → Present e σ ⊎ (k ≤ 0) → ⟨ awaitN p e k & σ ⟩⟶[ TERM ]⟨ nothing & σ ⟩
   rule26 :
-      {e : Event} {k : ℕ} {σ : Scheduler} →
+      {p k : ℕ} {e : Event} {σ : Scheduler} →
       Absent e σ → 0 < k → σ .current .eoi ≡ false →
-      ⟨ awaitN e k & σ ⟩⟶[ CONT ]⟨ awaitN e k & σ ⟩
+      ⟨ awaitN p e k & σ ⟩⟶[ CONT ]⟨ awaitN p e k & σ ⟩
   rule27 :
-      {e : Event} {k : ℕ} {σ : Scheduler} →
+      {p k : ℕ} {e : Event} {σ : Scheduler} →
       Absent e σ → 0 < k → σ .current .eoi ≡ true →
-      ⟨ awaitN e k & σ ⟩⟶[ COOP ]⟨ awaitN e (k - 1) & σ ⟩
+      ⟨ awaitN p e k & σ ⟩⟶[ COOP (missesFor p (k - 1)) ]⟨ awaitN p e (k - 1) & σ ⟩
   -- 4.15 Join_n. Rule 29 is read as rule 18 is.
-  rule28 : {t k : ℕ} {σ : Scheduler} → HasEnded t σ ⊎ (k ≤ 0) → ⟨ joinN t k & σ ⟩⟶[ TERM ]⟨ nothing & σ ⟩
+  rule28 : {p t k : ℕ} {σ : Scheduler} → HasEnded t σ ⊎ (k ≤ 0) → ⟨ joinN p t k & σ ⟩⟶[ TERM ]⟨ nothing & σ ⟩
   rule29 :
-      {t k : ℕ} {i : Instruction} {σ σ′ : Scheduler} →
-      NotEnded t σ → ⟨ awaitN (term t) k & σ ⟩⟶[ TERM ]⟨ i & σ′ ⟩ →
-      ⟨ joinN t k & σ ⟩⟶[ TERM ]⟨ i & σ′ ⟩
+      {p t k : ℕ} {i : Instruction} {σ σ′ : Scheduler} →
+      NotEnded t σ → ⟨ awaitN p (term t) k & σ ⟩⟶[ TERM ]⟨ i & σ′ ⟩ →
+      ⟨ joinN p t k & σ ⟩⟶[ TERM ]⟨ i & σ′ ⟩
   rule29-again :
-      {t k k′ : ℕ} {σ σ′ : Scheduler} {α : Status} →
-      NotEnded t σ → ⟨ awaitN (term t) k & σ ⟩⟶[ α ]⟨ awaitN (term t) k′ & σ′ ⟩ → α ≢ TERM →
-      ⟨ joinN t k & σ ⟩⟶[ α ]⟨ joinN t k′ & σ′ ⟩
+      {p t k k′ : ℕ} {σ σ′ : Scheduler} {α : Status} →
+      NotEnded t σ → ⟨ awaitN p (term t) k & σ ⟩⟶[ α ]⟨ awaitN p (term t) k′ & σ′ ⟩ → α ≢ TERM →
+      ⟨ joinN p t k & σ ⟩⟶[ α ]⟨ joinN p t k′ & σ′ ⟩
   -- 4.16 Generated Values
   rule30 :
-      {e c k : ℕ} {σ : Scheduler} →
+      {p e c k : ℕ} {σ : Scheduler} →
       k ≤ length (valuesOf σ e) →
-      ⟨ getValue e c k & σ ⟩⟶[ TERM ]⟨ nothing & returned e c k σ ⟩
+      ⟨ getValue p e c k & σ ⟩⟶[ TERM ]⟨ nothing & returned e c k σ ⟩
   rule31 :
-      {e c k : ℕ} {σ : Scheduler} →
+      {p e c k : ℕ} {σ : Scheduler} →
       length (valuesOf σ e) < k → σ .current .eoi ≡ false →
-      ⟨ getValue e c k & σ ⟩⟶[ CONT ]⟨ getValue e c k & σ ⟩
+      ⟨ getValue p e c k & σ ⟩⟶[ CONT ]⟨ getValue p e c k & σ ⟩
   -- Document 01 on rule 32's place: "a reading that stayed missing, leaves the place on the step that follows it in the book".
   rule32 :
-      {e c k : ℕ} {σ : Scheduler} →
+      {p e c k : ℕ} {σ : Scheduler} →
       length (valuesOf σ e) < k → σ .current .eoi ≡ true →
-      ⟨ getValue e c k & σ ⟩⟶[ COOP ]⟨ nothing & σ ⟩
+      ⟨ getValue p e c k & σ ⟩⟶[ COOP (unread p) ]⟨ nothing & σ ⟩

@@ -10,11 +10,15 @@ use Rattle.numbers.specs.Choice.{if_then_else_}
 use Rattle.numbers.specs.Sums.{AddsUp}
 use Rattle.rules.specs.Instructions.{Status, TERM, COOP, CONT, Event, signal, term, Call, mark, set as set-to, add, take}
 
--- a thread's status; document 01 also knows threads that are not started and threads that were stopped: stages 0 and 4
+-- t.status, as document 01 has it: "stage (0 not started, 1 continuing, 2 rested, 3 ended, 4 stopped)"
 pub data Stage : Type 0 where
-  notStarted : Stage
-  is : Status → Stage
-  stopped : Stage
+  notStarted continuing rested ended stopped : Stage
+
+-- CONT, COOP and TERM are stages 1 to 3
+abbrev pub stageBy : Status → Stage
+stageBy TERM = ended
+stageBy (COOP w) = rested
+stageBy CONT = continuing
 
 -- t.status and t.susp of each thread; t.run is kept apart, by the rules for threads
 pub record Threads : Type 0 where
@@ -83,14 +87,16 @@ statusOf σ t = getD (σ .threads .status) t notStarted
 -- t.status = TERM, as a join asks by rules 17, 18, 28 and 29; document 01: "Only stage 3 is TERM."
 abbrev pub hasEnded : Stage → Bool
 hasEnded notStarted = false
-hasEnded (is TERM) = true
-hasEnded (is COOP) = false
-hasEnded (is CONT) = false
+hasEnded continuing = false
+hasEnded rested = false
+hasEnded ended = true
 hasEnded stopped = false
 
 abbrev pub isNotStarted : Stage → Bool
 isNotStarted notStarted = true
-isNotStarted (is α) = false
+isNotStarted continuing = false
+isNotStarted rested = false
+isNotStarted ended = false
 isNotStarted stopped = false
 
 -- event ∈ sched.events

@@ -10,8 +10,10 @@ use Rattle.numbers.specs.Choice.{if_then_else_}
 use Rattle.numbers.specs.Numbers.{sumOf, relationOf, countOf}
 use Rattle.kinds.specs.Steps.{opAt, fieldA, fieldB, fieldN}
 use Rattle.directory.specs.Directory.{routineSteps}
+use Rattle.round.specs.declared.Position.{Position}
 use Rattle.round.specs.State.{Happening, gave, ended, missing, past, marked, completed, numbersWith}
 use Rattle.round.specs.Jumps.{pastPartner, fromEnd}
+use Rattle.round.specs.Ticks.{fresh}
 
 -- the counters, and the numbers given so far, in order, each behind its signal
 abbrev pub Contents : Type 0
@@ -48,11 +50,6 @@ leadsTo steps p op a b n counters =
     -- any other to the step that follows it
     else p + 1
 
--- "Op 6, or a reading that stayed missing, leaves the place on the step that follows it in the book; every other pause leaves it on its own
--- step."
-abbrev pub leftBy : ℕ → ℕ → ℕ
-leftBy op p = if eqb op opRest || eqb op opRead then p + 1 else p
-
 -- a function of a step's fields, at place p
 abbrev pub atStep {ℓ} : {A : Type ℓ} → (ℕ → ℕ → ℕ → ℤ → A) → List ℕ → ℕ → A
 atStep f steps p = f (opAt steps p) (fieldA steps p) (fieldB steps p) (fieldN steps p)
@@ -72,17 +69,19 @@ module _ (book : List ℕ) where
   contentsAfter [] c = c
   contentsAfter (h ∷ told) c = contentsAfter told (madeOf h c)
 
-  -- where one thing that happened leads routine r from place p, with these contents: only a step of its own that is completed moves it, by
-  -- the step at p, which is the one told (`stood`, Whole.antt)
-  abbrev pub ledBy : ℕ → Happening → Contents → ℕ → ℕ
-  ledBy r (gave e k) c p = p
-  ledBy r (ended q) c p = p
-  ledBy r (missing q o t) c p = p
-  ledBy r (past q o t) c p = p
-  ledBy r (marked q n) c p = p
-  ledBy r (completed q o) c p = let steps = routineSteps book r in if eqb q r then atStep (leadsTo steps p) steps p (c .0) else p
+  -- where one thing that happened leads routine r from position x, with these contents: only a step of its own that is completed moves it,
+  -- by the step there, which is the one told (`stood`, Whole.antt); begun is "cleared when that step is past"
+  abbrev pub ledBy : ℕ → Happening → Contents → Position → Position
+  ledBy r (gave e k) c x = x
+  ledBy r (ended q) c x = x
+  ledBy r (missing q o t) c x = x
+  ledBy r (past q o t) c x = x
+  ledBy r (marked q n) c x = x
+  ledBy r (completed q o) c x =
+      let steps = routineSteps book r in
+      if eqb q r then fresh (atStep (leadsTo steps (x .place)) steps (x .place) (c .0)) else x
 
   -- and where all that is told leads it
-  unfoldable pub placeAfter : ℕ → List Happening → Contents → ℕ → ℕ
-  placeAfter r [] c p = p
-  placeAfter r (h ∷ told) c p = placeAfter r told (madeOf h c) (ledBy r h c p)
+  unfoldable pub positionAfter : ℕ → List Happening → Contents → Position → Position
+  positionAfter r [] c x = x
+  positionAfter r (h ∷ told) c x = positionAfter r told (madeOf h c) (ledBy r h c x)

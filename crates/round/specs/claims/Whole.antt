@@ -1,10 +1,10 @@
 -- What the history of a round says is held against the round. Carried out again in order, the steps told as completed lead each routine
--- that plays from where it stood to where its last turn ends, so none is left out, and give the counters and numbers at the round's end;
--- of the other routines nothing is told. There are as many signals as signal steps, as many marks as mark steps, an end for each routine
--- that ended, and as many misses as turns that ended because their thing was missing; which signal or mark a step gives is not said here.
--- A try is of what its step asks for, and finds it exactly if that was there from the start or came before; a step of op 8, 10 or 12 is
--- completed only by finding what it asks for.
-use Prim.Native.Nat.{ℕ, _<_}
+-- that plays from where it stood to where its last turn ends, so none is left out, and the step there says how it is left; they give the
+-- counters and numbers at the round's end, and of the other routines nothing is told. There are as many signals as signal steps, as many
+-- marks as mark steps, an end for each routine that ended, and as many misses as turns that ended because their thing was missing; which
+-- signal or mark a step gives is not said here. A try is of what its step asks for, and finds it exactly if that was there from the start
+-- or came before; a step of op 8, 10 or 12 is completed only by finding what it asks for.
+use Prim.Native.Nat.{ℕ, _+_, _-_, _<_}
 use mathlib.Core.Path.{_≡_}
 use mathlib.Core.Bool.{Bool, true, false}
 use mathlib.Core.List.{List, [], _∷_, _++_}
@@ -12,25 +12,28 @@ use mathlib.Core.Logic.{_⊎_, _↔_}
 use lib.Dec.{eqb}
 use lib.ListN.{length}
 use Rattle.numbers.specs.Counting.{howMany, Somewhere, Among}
-use Rattle.kinds.specs.Ops.{opRest, opRestFor}
-use Rattle.kinds.specs.Steps.{opAt}
+use Rattle.kinds.specs.declared.Kind.{Kind}
+use Rattle.kinds.specs.declared.Kind.the-variants as kind
+use Rattle.kinds.specs.declared.Step.the-variants as step
 use Rattle.forms.specs.Timed.{Timed}
 use Rattle.layout.specs.Layout.{routinesOf}
-use Rattle.directory.specs.Directory.{stepCount, routineSteps, routineStep}
+use Rattle.directory.specs.Directory.{stepCount, routineStep}
 use Rattle.game.specs.declared.Routine.{Routine}
 use Rattle.game.specs.declared.Game.{Game}
 use Rattle.game.specs.Game.{routineAt}
 use Rattle.game.specs.Game as stage
 use Rattle.round.specs.declared.Ending.the-variants.{Ended, Rested, Missed, Continued}
+use Rattle.round.specs.declared.Position.{Position}
 use Rattle.round.specs.declared.Turn.{Turn}
 use Rattle.round.specs.declared.Turn.the-variants.{PassedOver, Took}
-use Rattle.round.specs.State.{Thing, Happening, gave, ended, missing, past, marked, completed, isThere}
+use Rattle.round.specs.State.{Thing, signal, end, number, Happening, gave, ended, missing, past, marked, completed, isThere}
 use Rattle.round.specs.Actions.{kept, positionOf, atStart}
+use Rattle.round.specs.Ticks.{fresh, begunAt, countAt}
 use Rattle.round.specs.Rounds.{listedIn, round, historyOf}
 use Rattle.round.specs.claims.Demand.{isSignalStep, givesSignal, endsRoutine, AsksFor, Comes}
 use Rattle.round.specs.Answers.{marksIn}
 use Rattle.round.specs.claims.Completed.{completes, isMarkStep}
-use Rattle.round.specs.claims.Replay.{leftBy, contentsAfter, placeAfter}
+use Rattle.round.specs.claims.Replay.{contentsAfter, positionAfter}
 
 -- a try finds its thing missing
 abbrev pub isMiss : Happening → Bool
@@ -58,22 +61,36 @@ isOf r (past q p t) = eqb q r
 isOf r (marked q n) = eqb q r
 isOf r (completed q p) = eqb q r
 
--- the op of the step at place p of routine r
-abbrev pub opHere : List ℕ → ℕ → ℕ → ℕ
-opHere book r p = opAt (routineSteps book r) p
+-- a routine rests at position z
+abbrev pub RestsAt : Routine → Position → Type 0
+RestsAt y z = (y .stage ≡ stage.rested) × (positionOf y ≡ z)
 
--- routine r, whose last turn has come to place p by what is told, is left in the stage and at the place of x
-pub data LeftAt (book : List ℕ) (r p : ℕ) (told : List Happening) (x : Routine) : Type 0 where
-  -- at a rest or a rest n
-  rests :
-      x .stage ≡ stage.rested → (opHere book r p ≡ opRest) ⊎ (opHere book r p ≡ opRestFor) → x .place ≡ leftBy (opHere book r p) p →
-      LeftAt book r p told x
-  -- at a step whose thing was missing
-  misses :
-      (t : Thing) → x .stage ≡ stage.rested → Somewhere (λ h. h ≡ missing r p t) told → x .place ≡ leftBy (opHere book r p) p →
-      LeftAt book r p told x
-  -- "An ended routine's place is its step count."
-  ends : x .stage ≡ stage.ended → p ≡ stepCount book r → x .place ≡ stepCount book r → LeftAt book r p told x
+-- routine r, whose last turn has come to position x by what is told
+module _ (book : List ℕ) (r : ℕ) (x : Position) (told : List Happening) where
+  -- the step there is of this kind
+  abbrev pub StandsOn : Kind → Type 0
+  StandsOn k = routineStep book r (x .place) ≡ step.Kind k
+
+  -- thing t was missing there
+  abbrev pub Lacks : Thing → Type 0
+  Lacks t = Somewhere (λ h. h ≡ missing r (x .place) t) told
+
+  -- and y, as that turn leaves it: a case for each way out of a turn
+  pub data LeftAt (y : Routine) : Type 0 where
+    -- "Op 6, or a reading that stayed missing, leaves the place on the step that follows it in the book"
+    rests : StandsOn kind.Rest → RestsAt y (fresh (x .place + 1)) → LeftAt y
+    unread : {e c k : ℕ} → StandsOn (kind.Read e c k) → Lacks (number e k) → RestsAt y (fresh (x .place + 1)) → LeftAt y
+    -- "every other pause leaves it on its own step": a wait or a join
+    misses :
+        {i : ℕ} → (StandsOn (kind.Wait i) × Lacks (signal i)) ⊎ (StandsOn (kind.Join i) × Lacks (end i)) →
+        RestsAt y (fresh (x .place)) → LeftAt y
+    -- "Begun is set when op 7, 9 or 11 pauses": on its own step too, while some of its count is left, and with one less
+    restsFor : {n : ℕ} → StandsOn (kind.RestFor n) → 0 < countAt x n → RestsAt y (begunAt (x .place) (countAt x n - 1)) → LeftAt y
+    missesFor :
+        {i n : ℕ} → (StandsOn (kind.WaitFor i n) × Lacks (signal i)) ⊎ (StandsOn (kind.JoinFor i n) × Lacks (end i)) →
+        0 < countAt x n → RestsAt y (begunAt (x .place) (countAt x n - 1)) → LeftAt y
+    -- "An ended routine's place is its step count."
+    ends : x .place ≡ stepCount book r → y .stage ≡ stage.ended → positionOf y ≡ fresh (stepCount book r) → LeftAt y
 
 -- routine r plays in a round from game g; "Listed, suspended: once the eight actions are done."
 abbrev pub Plays : Game → ℕ → Type 0
@@ -120,11 +137,11 @@ pub record ToldWhole (book : List ℕ) (g : Game) : Type 0 where
   pub stood :
       (before after : List Happening) (h : Happening) (r p : ℕ) → historyOf book g ≡ before ++ (h ∷ after) →
       (h ≡ completed r p) ⊎ ((t : Thing) × (h ≡ missing r p t)) →
-      placeAfter book r before (g .counters, []) (routineAt g r .place) ≡ p
-  -- and where a routine that plays stands by all that is told, there its last turn ends: with both, no step is left out
+      positionAfter book r before (g .counters, []) (positionOf (routineAt g r)) .place ≡ p
+  -- and where a routine that plays stands by all that is told, there its last turn leaves it: with both, no step is left out
   pub left :
       (r : ℕ) → Plays g r →
-      LeftAt book r (placeAfter book r (historyOf book g) (g .counters, []) (routineAt g r .place)) (historyOf book g)
+      LeftAt book r (positionAfter book r (historyOf book g) (g .counters, []) (positionOf (routineAt g r))) (historyOf book g)
       (routineAt (round book g .played .state .game) r)
   -- of a routine that doesn't play nothing is told, and it stays where it is
   pub untold :

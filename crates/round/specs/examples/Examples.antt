@@ -8,11 +8,11 @@ use lib.ListN.{length}
 use Rattle.kinds.specs.Steps.{rowOf, decoded, stepAt}
 use Rattle.blocks.specs.Blocks.{viewAt, blockBy, stepOf, routineOf}
 use Rattle.partners.specs.Partners.{partnerOf}
-use Rattle.verdicts.specs.Verdicts.{refused, firstRefusal}
+use Rattle.verdicts.specs.Verdicts.{accepted, refused, firstRefusal}
 use Rattle.layout.specs.Layout.{layoutVerdict, countsOf}
 use Rattle.directory.specs.Directory.{stepsBefore, directoryVerdict, routineSteps, routinePart}
 use Rattle.book.specs.Book.{stepsVerdict, routineWalk, nestingVerdict, pausingVerdict, bookVerdict}
-use Rattle.book.specs.Written.{equal, rest, if, else, while, end, directory, oneRoutine}
+use Rattle.book.specs.Written.{equal, mark, rest, if, else, while, end, directory, oneRoutine}
 use Rattle.book.specs.Examples.{t3}
 use Rattle.game.specs.declared.Game.{Game}
 use Rattle.numbers.specs.Counting.{allBelow, anyBelow, sumBelow}
@@ -43,6 +43,14 @@ afterOne = answer t3 (first t3) (pos 0 ∷ pos 0 ∷ []) .game
 -- "the place on the step that follows it in the book": if counter 0 equals 0, rest; else, rest
 abbrev pub restsInBoth : List ℕ
 restsInBoth = oneRoutine (if 0 equal (pos 0) ∷ rest ∷ else ∷ rest ∷ end ∷ [])
+
+-- one whose blocks leave the same to be run behind the rest: if counter 0 equals 0, rest, mark 1; else, rest, mark 1
+abbrev pub marksInBoth : List ℕ
+marksInBoth = oneRoutine (if 0 equal (pos 0) ∷ rest ∷ mark (pos 1) ∷ else ∷ rest ∷ mark (pos 1) ∷ end ∷ [])
+
+-- a buffer for the marks of two mark steps
+abbrev pub roomForTwo : List ℤ
+roomForTwo = pos 0 ∷ pos 0 ∷ pos 0 ∷ pos 0 ∷ []
 
 -- "an if that rests in one block": while counter 0 equals 0, if it equals 1, rest; else, nothing
 abbrev pub restsInOne : List ℕ
@@ -95,7 +103,7 @@ abbrev pub turns : List Turn
 turns = Took Continued ∷ Took Ended ∷ Took Ended ∷ PassedOver ∷ []
 
 -- and in an accepted round the mark (0, 7) stands at the buffer's start, and what is beyond it stays; a rest at the end of a first block
--- leaves the place on the else; and the steps of the while that does not pause run out, none of them the last
+-- leaves the place on the else, and one inside it in the block that was taken; and the steps of the while that does not pause run out, none of them the last
 pub as-told :
     (map (λ e. answer (e .book) (e .game) (e .buffer)) examples ≡ map (λ e. e .tells) examples)
     × (round t3 (first t3) .played .told ≡ toldFirst)
@@ -103,6 +111,8 @@ pub as-told :
     × (round t3 afterOne .played .turns ≡ turns)
     × (answer t3 afterOne (pos 5 ∷ pos 6 ∷ pos 8 ∷ []) .buffer ≡ pos 0 ∷ pos 7 ∷ pos 8 ∷ [])
     × (routineAt (answer restsInBoth (first restsInBoth) [] .game) 0 .place ≡ 2)
+    × (answer marksInBoth (first marksInBoth) roomForTwo .verdict ≡ accepted)
+    × (routineAt (answer marksInBoth (first marksInBoth) roomForTwo .game) 0 .place ≡ 2)
     × (stepsOn .ending ≡ Continued)
     × (length (stepsOn .told) ≡ mostTicks (routineSteps restsInOne 0))
 unfolding answer roundVerdict written marksIn sumBelow round instant pass turn allDone ticks effectOn tick tickOf waitsFor fromEnd
@@ -110,4 +120,4 @@ unfolding answer roundVerdict written marksIn sumBelow round instant pass turn a
     routineFits slotFits entryFits lineFits countersFit signalsFit isIn allBelow anyBelow bookVerdict layoutVerdict directoryVerdict
     stepsVerdict nestingVerdict pausingVerdict routineWalk routinePart routineOf stepOf blockBy partnerOf viewAt stepAt decoded rowOf
     stepsBefore firstRefusal directory
-as-told = (refl, refl, refl, refl, refl, refl, refl, refl)
+as-told = (refl, refl, refl, refl, refl, refl, refl, refl, refl, refl)
