@@ -71,8 +71,8 @@ use Rattle.round.specs.declared.Ending.the-variants.{Continued}
 use Rattle.round.specs.State.{State}
 use Rattle.round.specs.Actions.{positionOf, atStart}
 use Rattle.round.specs.Ticks.{tickAt, tick, fresh}
-use Rattle.round.specs.Rounds.{Ticks, follow, ticks, mostTicks, Played, notTaken, taken, followedBy, again}
-use Rattle.round.specs.Rounds.{Round, passThen, mostPasses, listedIn, ticksOf, turn, pass, instant, round}
+use Rattle.round.specs.Rounds.{Ticks, follow, ticks, mostTicks, PlayedTurns, notTaken, taken, followedBy, forNextPass}
+use Rattle.round.specs.Rounds.{PlayedRound, passThen, mostPasses, listedIn, ticksOf, turn, pass, instant, round}
 
 -- the step of eight bytes
 abbrev stepOfBytes : Counts → (ℕ → ℕ) → Step
@@ -155,10 +155,10 @@ book-verdict s v e =
 
 -- a round: the definitions of Rounds.antt over what the steps are, and over a turn
 unfoldable pub ticksBy : (ℕ → Step) → ℕ → ℕ → List ℕ → Position → State → Ticks
-ticksBy at zero r steps x s = record { ending = Continued; position = x; state = s; told = [] }
+ticksBy at zero r steps x s = record { ending = Continued; position = x; state = s; trace = [] }
 ticksBy at (suc n) r steps x s =
     let t = tickAt r steps x s (at (x .place)) in
-    follow r (x .place) (t .act) (t .told) s (λ p u. ticksBy at n r steps (fresh p) u)
+    follow r (x .place) (t .act) (t .events) s (λ p u. ticksBy at n r steps (fresh p) u)
 
 ticks-by : (n : ℕ) (counts : Counts) (r : ℕ) (steps : List ℕ) (x : Position) (s : State)
     → ticks n counts r steps x s ≡ ticksBy (stepAt counts steps) n r steps x s
@@ -166,9 +166,9 @@ unfolding ticks tick ticksBy
 ticks-by zero counts r steps x s = refl
 ticks-by (suc n) counts r steps x s =
     let t = tickAt r steps x s (stepAt counts steps (x .place)) in
-    ap (follow r (x .place) (t .act) (t .told) s) (fun-ext (λ p. fun-ext (λ u. ticks-by n counts r steps (fresh p) u)))
+    ap (follow r (x .place) (t .act) (t .events) s) (fun-ext (λ p. fun-ext (λ u. ticks-by n counts r steps (fresh p) u)))
 
-abbrev turnBy : (ℕ → State → Ticks) → ℕ → State → Played
+abbrev turnBy : (ℕ → State → Ticks) → ℕ → State → PlayedTurns
 turnBy ticking r s =
     let x = routineAt (s .game) r in
     if x .suspended || not (eqb (x .stage) continuing) then notTaken s else taken r (ticking r s)
@@ -190,18 +190,18 @@ turn-in : (book : List ℕ) → turn book ≡ turnBy (ticksIn book)
 unfolding turn
 turn-in book = ap turnBy (fun-ext (λ r. fun-ext (ticks-in book r)))
 
-module _ (turning : ℕ → State → Played) where
-  unfoldable pub passBy : List ℕ → State → Played
-  passBy [] s = record { state = s; told = []; turns = [] }
+module _ (turning : ℕ → State → PlayedTurns) where
+  unfoldable pub passBy : List ℕ → State → PlayedTurns
+  passBy [] s = record { state = s; trace = []; turns = [] }
   passBy (r ∷ rs) s =
       let first = turning r s in
       followedBy first (passBy rs (first .state))
 
-  unfoldable pub instantBy : ℕ → List ℕ → State → Round
-  instantBy zero rs s = record { played = record { state = s; told = []; turns = [] }; passes = 0 }
+  unfoldable pub instantBy : ℕ → List ℕ → State → PlayedRound
+  instantBy zero rs s = record { played = record { state = s; trace = []; turns = [] }; passes = 0 }
   instantBy (suc n) rs s =
       let first = passBy rs s in
-      passThen first (instantBy n rs (again (first .state)))
+      passThen first (instantBy n rs (forNextPass (first .state)))
 
 pass-by : (book rs : List ℕ) (s : State) → pass book rs s ≡ passBy (turn book) rs s
 unfolding pass passBy
@@ -212,10 +212,10 @@ instant-by : (book : List ℕ) (n : ℕ) (rs : List ℕ) (s : State) → instant
 unfolding instant instantBy
 instant-by book zero rs s = refl
 instant-by book (suc n) rs s =
-    ap (λ first. passThen first (instant book n rs (again (first .state)))) (pass-by book rs s)
-    ∙ ap (passThen (passBy (turn book) rs s)) (instant-by book n rs (again (passBy (turn book) rs s .state)))
+    ap (λ first. passThen first (instant book n rs (forNextPass (first .state)))) (pass-by book rs s)
+    ∙ ap (passThen (passBy (turn book) rs s)) (instant-by book n rs (forNextPass (passBy (turn book) rs s .state)))
 
-abbrev pub roundIn : List ℕ → Game → Round
+abbrev pub roundIn : List ℕ → Game → PlayedRound
 roundIn book g = instantBy (turnBy (ticksIn book)) mostPasses (listedIn g) (atStart g)
 
 pub round-in : (book : List ℕ) (g : Game) → round book g ≡ roundIn book g
@@ -282,7 +282,7 @@ pub ordered-by : (s : List ℕ) (g : Game) (kind n : ℕ) → ordered s g kind n
 unfolding ordered orderVerdict
 ordered-by s g kind n = refl
 
-abbrev answerBy : Verdict → rounds.Round → List ℕ → Game → List ℤ → Answer
+abbrev answerBy : Verdict → rounds.PlayedRound → List ℕ → Game → List ℤ → Answer
 answerBy b p s g buffer =
     let v = b orElse fitVerdict s g orElse spaceVerdict s buffer orElse numbersVerdict p in
     if eqb (v .number) 0 then playedOut v p buffer else turnedDown v g buffer
@@ -311,7 +311,7 @@ pub record Table : Type 0 where
   pub book : List ℕ
   pub verdict : Verdict
   pub game : Game
-  pub last : rounds.Round
+  pub last : rounds.PlayedRound
   pub bookLent : List ℕ
   pub gameLent : Game
 
@@ -418,7 +418,7 @@ roundLines a =
     ∷ markLines (take n (a .buffer))
     ++ (drop n (a .buffer) ∷ [])
 
-abbrev roundDone : Table → rounds.Round → Answer → Done
+abbrev roundDone : Table → rounds.PlayedRound → Answer → Done
 roundDone t p a =
     record {
       lines = roundLines a;
@@ -452,14 +452,14 @@ done (Poke field i v) t = record { lines = []; table = withGame t (poked field i
 done (PokeCounter i v) t = record { lines = []; table = withGame t (withCounter (t .game) i v) }
 done Log t = record { lines = line (map turnByte (t .last .played .turns)) ∷ []; table = t }
 done Facts t =
-    let told = t .last .played .told in
+    let trace = t .last .played .trace in
     let listed = entriesOf (atStart (t .gameLent) .game .listed) in
     record {
       lines =
           line
           (t .last .passes
-          ∷ howMany givesSignal told
-          ∷ howMany endsRoutine told
+          ∷ howMany givesSignal trace
+          ∷ howMany endsRoutine trace
           ∷ countSteps (t .bookLent) (isSignalStep (t .bookLent)) listed
           ∷ [])
           ∷ [];

@@ -3,4 +3,4 @@ pub mod Laid
 pub mod OneReading
 pub mod Routines
 pub mod Parts
-pub mod Telling
+pub mod Reasons

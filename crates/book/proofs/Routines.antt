@@ -22,12 +22,12 @@ use Rattle.partners.specs.Partners.{partnerOf}
 use Rattle.book.specs.Book.{stepsPart, viewOf, isShown, shown, shownFrom}
 use Rattle.blocks.specs.Parse.{ParsedBlock, WhilesPause}
 use Rattle.book.specs.Accepted.{Accepted}
-use Rattle.book.specs.Tells.{nothing}
+use Rattle.book.specs.Reasons.{nothing}
 use Rattle.directory.proofs.Directory as directory
 use Rattle.kinds.proofs.Readable.{readable-step}
 use Rattle.book.proofs.Parts.{step-of-book, step-taken, step-routine, shown-length}
 use Rattle.partners.proofs.Scan.{finds-partner}
-use Rattle.book.proofs.Telling.{told-only}
+use Rattle.book.proofs.Reasons.{book-reason-only}
 
 -- what stands at a place of what is shown of routine r
 abbrev pub shownAt : List ℕ → ℕ → ℕ → View
@@ -71,7 +71,7 @@ module _ (s : List ℕ) (a : Accepted s) where
   -- r is one of its routines
   module _ (r : ℕ) (h : r < routinesOf s) where
     is-shown : isShown s r ≡ true
-    is-shown = rw (told-only s (nothing a), lt-ltb r (routinesOf s) h)
+    is-shown = rw (book-reason-only s (nothing a), lt-ltb r (routinesOf s) h)
 
     pub shown-routine : shown s r ≡ routineSteps s r
     unfolding shown

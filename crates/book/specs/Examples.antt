@@ -22,7 +22,7 @@ nested n = oneRoutine (times n (if 0 equal (pos 0)) (times n end []))
 
 pub record Example : Type 0 where
   pub bytes : List ℕ
-  pub tells : Verdict
+  pub verdict : Verdict
 
 -- T3's book, as it is printed there
 abbrev pub t3 : List ℕ
@@ -38,19 +38,19 @@ t3 =
 -- "A while holding only wait, only rest n with n 0, or an if that rests in one block: 7. R 65, S 1,025: 2. Depth 16 accepted, 17 gives 6."
 abbrev pub examples : List Example
 examples =
-    record { bytes = t3; tells = accepted }
-    ∷ record { bytes = oneRoutine (while 0 equal (pos 0) ∷ wait 0 ∷ end ∷ []); tells = refused 7 0 }
-    ∷ record { bytes = oneRoutine (while 0 equal (pos 0) ∷ restFor (pos 0) ∷ end ∷ []); tells = refused 7 0 }
-    ∷ record { bytes = oneRoutine (while 0 equal (pos 0) ∷ if 0 equal (pos 0) ∷ rest ∷ end ∷ end ∷ []); tells = refused 7 0 }
-    ∷ record { bytes = oneRoutine (while 0 equal (pos 0) ∷ if 0 equal (pos 0) ∷ rest ∷ else ∷ end ∷ end ∷ []); tells = refused 7 0 }
-    ∷ record { bytes = oneRoutine (while 0 equal (pos 0) ∷ if 0 equal (pos 0) ∷ rest ∷ else ∷ rest ∷ end ∷ end ∷ []); tells = accepted }
-    ∷ record { bytes = header 65 0 1 1; tells = refused 2 0 }
-    ∷ record { bytes = header 1 1025 1 1; tells = refused 2 0 }
-    ∷ record { bytes = nested 16; tells = accepted }
-    ∷ record { bytes = nested 17; tells = refused 6 16 }
+    record { bytes = t3; verdict = accepted }
+    ∷ record { bytes = oneRoutine (while 0 equal (pos 0) ∷ wait 0 ∷ end ∷ []); verdict = refused 7 0 }
+    ∷ record { bytes = oneRoutine (while 0 equal (pos 0) ∷ restFor (pos 0) ∷ end ∷ []); verdict = refused 7 0 }
+    ∷ record { bytes = oneRoutine (while 0 equal (pos 0) ∷ if 0 equal (pos 0) ∷ rest ∷ end ∷ end ∷ []); verdict = refused 7 0 }
+    ∷ record { bytes = oneRoutine (while 0 equal (pos 0) ∷ if 0 equal (pos 0) ∷ rest ∷ else ∷ end ∷ end ∷ []); verdict = refused 7 0 }
+    ∷ record { bytes = oneRoutine (while 0 equal (pos 0) ∷ if 0 equal (pos 0) ∷ rest ∷ else ∷ rest ∷ end ∷ end ∷ []); verdict = accepted }
+    ∷ record { bytes = header 65 0 1 1; verdict = refused 2 0 }
+    ∷ record { bytes = header 1 1025 1 1; verdict = refused 2 0 }
+    ∷ record { bytes = nested 16; verdict = accepted }
+    ∷ record { bytes = nested 17; verdict = refused 6 16 }
     ∷ []
 
-pub as-told : map (λ e. bookVerdict (e .bytes)) examples ≡ map (λ e. e .tells) examples
+pub as-told : map (λ e. bookVerdict (e .bytes)) examples ≡ map (λ e. e .verdict) examples
 unfolding bookVerdict layoutVerdict directoryVerdict stepsVerdict nestingVerdict pausingVerdict routineWalk routinePart routineOf stepOf
     blockBy viewAt stepAt decoded rowOf stepsBefore sumBelow firstRefusal directory times
 as-told = refl

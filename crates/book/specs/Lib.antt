@@ -1,5 +1,5 @@
 pub mod Book
 pub mod Accepted
-pub mod Tells
+pub mod Reasons
 pub mod Written
 pub mod Examples

@@ -6,7 +6,7 @@ use layout::routines;
 use layout::steps;
 use layout::steps_from;
 use numbers::half_at;
-use verdicts::Answer;
+use verdicts::BookAnswer;
 ghost use mathlib.Core.Path.{_≡_};
 ghost use Prim.Native.Nat.{_+_, _<_};
 ghost use Rattle.numbers.specs.Numbers.{halfLimit};
@@ -34,7 +34,7 @@ pub fn step_count(book: &[u8], routine: usize) -> usize
 }
 
 // Refusal 4.
-pub fn check_directory(book: &[u8]) -> Answer
+pub fn check_directory(book: &[u8]) -> BookAnswer
     ensures { λ r. ⌜ verdictOf r ≡ directoryVerdict (now (book .entry)) ⌝ }
 {
     let all = routines(book);
@@ -42,15 +42,15 @@ pub fn check_directory(book: &[u8]) -> Answer
     let mut sum: usize = 0;
     while routine < all {
         if first_step(book, routine) != sum {
-            return Answer::WrongEntry(routine as u32);
+            return BookAnswer::WrongEntry(routine as u32);
         }
         sum += step_count(book, routine);
         routine += 1;
     }
     if sum != steps(book) {
-        return Answer::WrongEntry(routine as u32);
+        return BookAnswer::WrongEntry(routine as u32);
     }
-    Answer::Accepted
+    BookAnswer::Accepted
 }
 
 // The steps of a routine where the directory says, without reading the book again; what is not there is left out. For a

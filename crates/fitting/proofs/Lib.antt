@@ -2,7 +2,7 @@ pub mod Tests
 pub mod Sizes
 pub mod Lists
 pub mod Ranges
-pub mod Marks
+pub mod Flagged
 pub mod Routines
 pub mod Decides
 pub mod Room

@@ -11,7 +11,7 @@ use lib.ListN.{set}
 use borrow.Author.Tests.{lt-ltb, le-ltb}
 use Rattle.lines.specs.declared.Line.{Line}
 use Rattle.lines.specs.Lines.{mostEntries, itemAt, usedOf, isIn}
-use Rattle.fitting.specs.Arrays.{firstOf, entryFits, lineFits}
+use Rattle.fitting.specs.Arrays.{entriesBefore, entryFits, lineFits}
 use Rattle.fitting.specs.Fits.{In}
 use Rattle.fitting.proofs.Tests.{less, at-most, equal, denied, both, by-order, each, some}
 
@@ -41,13 +41,13 @@ module _ (l : Line) (short : l .len ≤ mostEntries) where
 -- what the test at entry i says
 abbrev EntryRight : Line → ℕ → ℕ → Type 0
 EntryRight l routines i =
-    (i < l .len → (itemAt l i < routines) × (In (firstOf l i) (itemAt l i) → ⊥)) × (l .len ≤ i → itemAt l i ≡ 0)
+    (i < l .len → (itemAt l i < routines) × (In (entriesBefore l i) (itemAt l i) → ⊥)) × (l .len ≤ i → itemAt l i ≡ 0)
 
 module _ (l : Line) (routines : ℕ) where
   entry-right : (i : ℕ) → i < mostEntries → (entryFits l routines i ≡ true) ↔ EntryRight l routines i
   unfolding entryFits
   entry-right i h =
-      let before = is-in (firstOf l i) (omega arith) (itemAt l i) in
+      let before = is-in (entriesBefore l i) (omega arith) (itemAt l i) in
       let there = both (less (itemAt l i) routines) (denied _ before) in
       by-order i (l .len) there (equal (itemAt l i) 0)
 

@@ -15,14 +15,14 @@ use Rattle.numbers.specs.Counting.{allBelow}
 use Rattle.lines.specs.Lines.{mostEntries, itemAt, isIn}
 
 -- the entries of a list before entry i
-abbrev pub firstOf : Line → ℕ → Line
-firstOf l i = record { items = l .items; len = i }
+abbrev pub entriesBefore : Line → ℕ → Line
+entriesBefore l i = record { items = l .items; len = i }
 
 -- slot i of a list: an entry, which is one of the routines and not among those before it ("no routine is twice in a list"), or behind
 -- the list's length
 unfoldable pub entryFits : Line → ℕ → ℕ → Bool
 entryFits l routines i =
-    if ltb i (l .len) then ltb (itemAt l i) routines && not (isIn (firstOf l i) (itemAt l i)) else eqb (itemAt l i) 0
+    if ltb i (l .len) then ltb (itemAt l i) routines && not (isIn (entriesBefore l i) (itemAt l i)) else eqb (itemAt l i) 0
 
 unfoldable pub lineFits : Line → ℕ → Bool
 lineFits l routines = leb (l .len) mostEntries && allBelow mostEntries (entryFits l routines)
@@ -42,9 +42,9 @@ unfoldable pub signalsFit : List Bool → ℕ → Bool
 signalsFit flags signals = allBelow mostSignals (λ e. signalFits (getD flags e false) signals e)
 
 -- a flag for each number that an entry of a list can be, none of them set
-abbrev pub unmarked : List Bool
-unmarked = replicate byteLimit false
+abbrev pub unflagged : List Bool
+unflagged = replicate byteLimit false
 
 -- the flags that are set are those of the routines in a list
-abbrev pub Marks : List Bool → Line → Type 0
-Marks seen l = (r : ℕ) → r < byteLimit → getD seen r false ≡ isIn l r
+abbrev pub Flagged : List Bool → Line → Type 0
+Flagged seen l = (r : ℕ) → r < byteLimit → getD seen r false ≡ isIn l r

@@ -16,7 +16,7 @@ ghost use Rattle.layout.specs.Layout.{mostCounters};
 ghost use Rattle.lines.specs.Lines.{mostEntries, itemAt};
 ghost use Rattle.numbers.specs.Numbers.{isWithin};
 ghost use Rattle.numbers.specs.Counting.{allFrom, allBelow};
-ghost use Rattle.fitting.specs.Arrays.{unmarked, Marks, entryFits, lineFits, countersFit, signalsFit};
+ghost use Rattle.fitting.specs.Arrays.{unflagged, Flagged, entryFits, lineFits, countersFit, signalsFit};
 
 // How many numbers an entry of a list, which is a byte, can be.
 pub const BYTE_LIMIT: usize = 256;
@@ -25,9 +25,9 @@ pub const BYTE_LIMIT: usize = 256;
 // where they fit, it tells which routines are in the list.
 fn entries_fit(line: Line, routines: usize, seen: &mut [bool; BYTE_LIMIT]) -> bool
     requires { ⌜ line .len ≤ mostEntries ⌝ }
-    requires { ⌜ now seen ≡ unmarked ⌝ }
+    requires { ⌜ now seen ≡ unflagged ⌝ }
     ensures { λ r. ⌜ r ≡ allBelow (line .len) (entryFits line routines) ⌝ }
-    ensures { λ r. ⌜ (r ≡ true → Marks (now (seen .exit)) line) ⌝ }
+    ensures { λ r. ⌜ (r ≡ true → Flagged (now (seen .exit)) line) ⌝ }
 {
     let len = line.len;
     let mut at: usize = 0;
@@ -62,9 +62,9 @@ fn rest_fits(line: Line) -> bool
 
 // Whether a list of routines fits a book of so many. `seen` is lent with nothing marked: where the list fits, it tells which are in it.
 pub fn line_fits(line: Line, routines: usize, seen: &mut [bool; BYTE_LIMIT]) -> bool
-    requires { ⌜ now seen ≡ unmarked ⌝ }
+    requires { ⌜ now seen ≡ unflagged ⌝ }
     ensures { λ r. ⌜ r ≡ lineFits line routines ⌝ }
-    ensures { λ r. ⌜ (r ≡ true → Marks (now (seen .exit)) line) ⌝ }
+    ensures { λ r. ⌜ (r ≡ true → Flagged (now (seen .exit)) line) ⌝ }
 {
     if MOST_ENTRIES < line.len {
         return false;

@@ -3,7 +3,7 @@ use kinds::Counts;
 use kinds::Limits;
 use kinds::STEP_BYTES;
 use numbers::half_at;
-use verdicts::Answer;
+use verdicts::BookAnswer;
 ghost use mathlib.Core.Path.{_≡_};
 ghost use Prim.Native.Nat.{_+_, _*_, _<_};
 ghost use Rattle.numbers.specs.Numbers.{halfLimit};
@@ -117,19 +117,19 @@ fn layout_fits(book: &[u8]) -> bool
 }
 
 // Refusals 1 to 3.
-pub fn check_layout(book: &[u8]) -> Answer
+pub fn check_layout(book: &[u8]) -> BookAnswer
     ensures { λ r. ⌜ verdictOf r ≡ layoutVerdict (now (book .entry)) ⌝ }
 {
     if book.len() < HEADER_BYTES {
-        return Answer::TooShort;
+        return BookAnswer::TooShort;
     }
     if counts_fit(book) {
         if layout_fits(book) {
-            Answer::Accepted
+            BookAnswer::Accepted
         } else {
-            Answer::WrongLayout
+            BookAnswer::WrongLayout
         }
     } else {
-        Answer::WrongCount
+        BookAnswer::WrongCount
     }
 }

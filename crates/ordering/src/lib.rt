@@ -11,7 +11,7 @@ use layout::counts_of;
 use reading::read_book;
 use verdicts::UNFIT;
 use verdicts::Verdict;
-use verdicts::told;
+use verdicts::as_verdict;
 use verdicts::verdict_of;
 ghost use mathlib.Core.Path.{_≡_};
 ghost use Rattle.fitting.specs.Fits.{GivesFitting};
@@ -54,10 +54,10 @@ fn order_verdict(book: &[u8], game: Game, kind: u32, number: u32) -> Verdict
         return read;
     }
     if !fits(book, game) {
-        return told(UNFIT, 0);
+        return as_verdict(UNFIT, 0);
     }
     if order_count(counts_of(book), kind) <= number as usize {
-        return told(WRONG_ORDER, 0);
+        return as_verdict(WRONG_ORDER, 0);
     }
     read
 }

@@ -17,7 +17,7 @@ use Rattle.orders.specs.Orders.{orderVerdict, obeyed, ordered}
 use Rattle.orders.specs.Joined.{Joined, OnlyAdds}
 use Rattle.orders.proofs.Stores.{entry-set}
 use Rattle.orders.proofs.Starts.{nothing-added, start-nothing, start-adds}
-use Rattle.orders.proofs.Telling.{told-right, order-tells}
+use Rattle.orders.proofs.Reasons.{order-clauses, order-reason}
 
 -- an entry whose flag is set, put in place n
 flag-adds :
@@ -50,7 +50,7 @@ unfolding ordered
 order-adds s g kind n =
     let P : Game → Type 0 = λ h. OnlyAdds n (Joined kind g) (Joined kind h) in
     game-either (orderVerdict s g kind n) (obeyed g kind n) g P
-    (λ e. obeyed-adds (told-right (order-tells s g kind n) e .1) kind n) nothing-added
+    (λ e. obeyed-adds (order-clauses (order-reason s g kind n) e .1) kind n) nothing-added
 
 -- "A start of a routine that isn't in stage 0, or is already to start, adds nothing."
 module _ (s : List ℕ) (g : Game) (n : ℕ) where
@@ -62,6 +62,6 @@ module _ (s : List ℕ) (g : Game) (n : ℕ) where
   start-adds-nothing why =
       game-either (orderVerdict s g 1 n) (obeyed g 1 n) g (λ h. h ≡ g)
       (λ e.
-      let (a, f, h) = told-right (order-tells s g 1 n) e in
+      let (a, f, h) = order-clauses (order-reason s g 1 n) e in
       ap (withStarting g) (start-nothing (g .starting) n (routineAt g n .stage) (⊎-elim inl (λ i. inr (known f i)) why)))
       refl

@@ -12,10 +12,10 @@ use Rattle.game.proofs.Outcomes.{game-lent}
 use Rattle.fitting.specs.Fitting.{fitsBook}
 use Rattle.fitting.proofs.Decides.{fits-decides}
 use Rattle.orders.specs.Orders.{orderVerdict, obeyed, ordered}
-use Rattle.orders.specs.Tells.{OrderTells}
+use Rattle.orders.specs.Reasons.{OrderReason}
 use Rattle.fitting.specs.Fits.{GivesFitting}
 use Rattle.orders.proofs.Obeyed.{obeyed-fits, obeyed-again}
-use Rattle.orders.proofs.Telling.{Right, told-right, order-told-only, order-tells}
+use Rattle.orders.proofs.Reasons.{Right, order-clauses, order-reason-only, order-reason}
 
 -- the answer of an order that is accepted
 abbrev given : Game → Outcome
@@ -23,13 +23,13 @@ given g = record { verdict = accepted; game = g }
 
 right-given : (s : List ℕ) (g : Game) (kind n : ℕ) → Right s g kind n → ordered s g kind n ≡ given (obeyed g kind n)
 unfolding ordered
-right-given s g kind n (a, f, h) = rw (order-told-only (OrderTells.nothing a f h))
+right-given s g kind n (a, f, h) = rw (order-reason-only (OrderReason.nothing a f h))
 
 module _ (s : List ℕ) (g : Game) (kind n : ℕ) where
   pub order-fits : GivesFitting s (ordered s g kind n)
   unfolding ordered
   order-fits e =
-      let (a, f, h) = told-right (order-tells s g kind n) (ap (λ v. v .number) e) in
+      let (a, f, h) = order-clauses (order-reason s g kind n) (ap (λ v. v .number) e) in
       rw e (obeyed-fits s g f (a .laid .counts) kind n h)
 
   -- whether the game fits is as it was, after a refusal too
@@ -38,7 +38,7 @@ module _ (s : List ℕ) (g : Game) (kind n : ℕ) where
   order-keeps =
       elim (ℕ-discrete (orderVerdict s g kind n .number) 0) [
         | yes e ↦
-            let (a, f, h) = told-right (order-tells s g kind n) e in
+            let (a, f, h) = order-clauses (order-reason s g kind n) e in
             let fitting = fits-decides s (a .laid .counts) in
             rw (eq-eqb _ _ e) (fitting (obeyed g kind n) .1 (obeyed-fits s g f (a .laid .counts) kind n h) ∙ sym (fitting g .1 f))
         | no m ↦ ap (fitsBook s) (game-lent (orderVerdict s g kind n) (obeyed g kind n) g m)
@@ -49,7 +49,7 @@ module _ (s : List ℕ) (g : Game) (kind n : ℕ) where
   order-twice =
       elim (ℕ-discrete (orderVerdict s g kind n .number) 0) [
         | yes e ↦
-            let (a, f, h) = told-right (order-tells s g kind n) e in
+            let (a, f, h) = order-clauses (order-reason s g kind n) e in
             let first = right-given s g kind n (a, f, h) in
             let second = right-given s (obeyed g kind n) kind n (a, obeyed-fits s g f (a .laid .counts) kind n h, h) in
             ap (λ o. ordered s (o .game) kind n) first ∙ second ∙ ap given (obeyed-again s g f kind n) ∙ sym first

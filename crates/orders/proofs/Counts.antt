@@ -10,7 +10,7 @@ use Rattle.layout.specs.Layout.{mostRoutines, mostSignals, mostCounters, counts
 use Rattle.book.specs.Accepted.{CountsInRange}
 use Rattle.game.specs.declared.Game.{Game}
 use Rattle.orders.specs.Orders.{orderCount, orderVerdict}
-use Rattle.orders.proofs.Telling.{told-right, order-tells}
+use Rattle.orders.proofs.Reasons.{order-clauses, order-reason}
 
 -- the most routines, signals and counters that there can be: an accepted order names a number below these, whatever the book
 abbrev pub mostCounts : Counts
@@ -38,5 +38,5 @@ in-routines (suc (suc (suc (suc (suc kind))))) n e h = absurd (omega arith)
 
 pub nameable : (s : List ℕ) (g : Game) (kind n : ℕ) → orderVerdict s g kind n .number ≡ 0 → n < orderCount mostCounts kind
 nameable s g kind n e =
-    let (a, f, h) = told-right (order-tells s g kind n) e in
+    let (a, f, h) = order-clauses (order-reason s g kind n) e in
     lt-of-lt-of-le h (at-most s (a .laid .counts) kind)

@@ -16,7 +16,7 @@ use Rattle.fitting.specs.Fits.{Fits}
 use Rattle.fitting.proofs.Room.{start-joins}
 use Rattle.orders.specs.Orders.{orderCount, obeyed, ordered}
 use Rattle.orders.specs.Joined.{Joined}
-use Rattle.orders.proofs.Telling.{told-right, order-tells}
+use Rattle.orders.proofs.Reasons.{order-clauses, order-reason}
 
 module _ (s : List ℕ) (g : Game) (range : CountsInRange s) (f : Fits s g) where
   flagged : (n : ℕ) (x : Routine) (flag : Routine → Bool) → flag x ≡ true → n < routinesOf s → flag (routineAt (withRoutine g n x) n) ≡ true
@@ -39,5 +39,5 @@ pub order-joins :
     (kind ≡ 1 → routineAt g n .stage ≡ notStarted) → Joined kind (ordered s g kind n .game) n
 unfolding ordered
 order-joins s g kind n e new =
-    let (a, f, h) = told-right (order-tells s g kind n) (ap (λ v. v .number) e) in
+    let (a, f, h) = order-clauses (order-reason s g kind n) (ap (λ v. v .number) e) in
     rw e (obeyed-joins s g (a .laid .counts) f kind n h new)

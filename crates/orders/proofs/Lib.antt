@@ -7,4 +7,4 @@ pub mod Joins
 pub mod Obeyed
 pub mod Starts
 pub mod Stores
-pub mod Telling
+pub mod Reasons

@@ -37,36 +37,36 @@ inStage k =
       resuming = false;
     }
 
-abbrev pub fresh : Game
-fresh = newGame (countsOf t3)
+abbrev pub setUpGame : Game
+setUpGame = newGame (countsOf t3)
 
 -- routine 1 is in this stage, and neither listed nor to start
 abbrev pub unlistedIn : ℕ → Game
-unlistedIn k = withRoutine fresh 1 (inStage k)
+unlistedIn k = withRoutine setUpGame 1 (inStage k)
 
 pub record Example : Type 0 where
   pub game : Game
   pub kind : ℕ
   pub number : ℕ
-  pub tells : Verdict
+  pub verdict : Verdict
 
 -- one signal and two routines; an unknown kind; a start that adds nothing; games that do not fit, which is told before a wrong order
 abbrev pub examples : List Example
 examples =
-    record { game = fresh; kind = 0; number = 0; tells = accepted }
-    ∷ record { game = fresh; kind = 0; number = 1; tells = refused 8 0 }
-    ∷ record { game = fresh; kind = 4; number = 1; tells = accepted }
-    ∷ record { game = fresh; kind = 4; number = 2; tells = refused 8 0 }
-    ∷ record { game = fresh; kind = 5; number = 0; tells = refused 8 0 }
-    ∷ record { game = fresh; kind = 1; number = 0; tells = accepted }
-    ∷ record { game = unlistedIn ended; kind = 1; number = 1; tells = accepted }
-    ∷ record { game = unlistedIn continuing; kind = 1; number = 1; tells = refused 9 0 }
-    ∷ record { game = unlistedIn 5; kind = 5; number = 9; tells = refused 9 0 }
-    ∷ record { game = withRoutine fresh 0 (inStage ended); kind = 0; number = 0; tells = refused 9 0 }
-    ∷ record { game = withRoutine fresh 2 (inStage ended); kind = 0; number = 0; tells = refused 9 0 }
+    record { game = setUpGame; kind = 0; number = 0; verdict = accepted }
+    ∷ record { game = setUpGame; kind = 0; number = 1; verdict = refused 8 0 }
+    ∷ record { game = setUpGame; kind = 4; number = 1; verdict = accepted }
+    ∷ record { game = setUpGame; kind = 4; number = 2; verdict = refused 8 0 }
+    ∷ record { game = setUpGame; kind = 5; number = 0; verdict = refused 8 0 }
+    ∷ record { game = setUpGame; kind = 1; number = 0; verdict = accepted }
+    ∷ record { game = unlistedIn ended; kind = 1; number = 1; verdict = accepted }
+    ∷ record { game = unlistedIn continuing; kind = 1; number = 1; verdict = refused 9 0 }
+    ∷ record { game = unlistedIn 5; kind = 5; number = 9; verdict = refused 9 0 }
+    ∷ record { game = withRoutine setUpGame 0 (inStage ended); kind = 0; number = 0; verdict = refused 9 0 }
+    ∷ record { game = withRoutine setUpGame 2 (inStage ended); kind = 0; number = 0; verdict = refused 9 0 }
     ∷ []
 
-pub as-told : map (λ e. ordered t3 (e .game) (e .kind) (e .number) .verdict) examples ≡ map (λ e. e .tells) examples
+pub as-told : map (λ e. ordered t3 (e .game) (e .kind) (e .number) .verdict) examples ≡ map (λ e. e .verdict) examples
 unfolding ordered orderVerdict newGame isSized fitsBook routineFits slotFits entryFits lineFits countersFit signalsFit isIn allBelow
     anyBelow bookVerdict layoutVerdict directoryVerdict stepsVerdict nestingVerdict pausingVerdict routineWalk routinePart routineOf stepOf
     blockBy viewAt stepAt decoded rowOf stepsBefore sumBelow firstRefusal
@@ -79,7 +79,7 @@ ended-stays = refl
 
 -- those to start once routine 1 was started, then both again
 abbrev pub startedAll : Game
-startedAll = obeyed (obeyed (obeyed fresh 1 1) 1 0) 1 1
+startedAll = obeyed (obeyed (obeyed setUpGame 1 1) 1 0) 1 1
 
 pub started-once : take (startedAll .starting .len) (startedAll .starting .items) ≡ (0 ∷ 1 ∷ [])
 unfolding obeyed newGame withStart isIn anyBelow

@@ -1,5 +1,5 @@
 pub mod Orders
-pub mod Tells
+pub mod Reasons
 pub mod Joined
 pub mod Without
 pub mod Examples

@@ -12,7 +12,7 @@ use Rattle.game.specs.declared.Game.{Game}
 use Rattle.lines.specs.declared.Line.{Line}
 use Rattle.lines.specs.Lines.{entriesOf}
 use Rattle.round.specs.State.{State}
-use Rattle.round.specs.Rounds.{passThen, allDone, again, mostPasses, pass, instant}
+use Rattle.round.specs.Rounds.{passThen, allDone, forNextPass, mostPasses, pass, instant}
 use Rattle.round.specs.Answers.{marksIn}
 use Rattle.tables.specs.declared.Tally.{Tally}
 use Rattle.tables.specs.Tables.{stateOf, Whole}
@@ -20,39 +20,39 @@ use Rattle.passing.specs.Effects.{Marks, marksOf, marksPut}
 use Rattle.passing.specs.Turns.{marksAfter}
 use Rattle.passing.specs.Passes.{PassAsks, PassesAsk, Passing, passing, passedBy, passes as passesOf, passesBy}
 use Rattle.passing.proofs.Held.{still-whole}
-use Rattle.passing.proofs.Told.{marks-append}
+use Rattle.passing.proofs.TurnMarks.{marks-append}
 
 abbrev unmoved : Tally → Tally
 unmoved t = record { starting = t .starting; given = t .given; marks = t .marks; moved = 0 }
 
 -- the flags for another pass
-again-held :
+next-pass-held :
     (g : Game) (counters : List ℤ) (flags : List Bool) (fields : List ℕ) (given : List ℤ) (t : Tally) (eoi : Bool) →
-    again (stateOf g counters flags fields given t eoi) ≡ stateOf g counters flags fields given (unmoved t) (not (eqb (t .moved) 1))
+    forNextPass (stateOf g counters flags fields given t eoi) ≡ stateOf g counters flags fields given (unmoved t) (not (eqb (t .moved) 1))
 unfolding stateOf
-again-held g counters flags fields given t eoi = refl
+next-pass-held g counters flags fields given t eoi = refl
 
 module _ (book : List ℕ) (rs : List ℕ) where
   one-more :
       (n : ℕ) (s : State) → 0 < n →
-      instant book n rs s ≡ passThen (pass book rs s) (instant book (n - 1) rs (again (pass book rs s .state)))
+      instant book n rs s ≡ passThen (pass book rs s) (instant book (n - 1) rs (forNextPass (pass book rs s .state)))
   unfolding instant
   one-more zero s h = absurd (omega arith)
   one-more (suc n) s h = rw (sub-one (suc n))
 
   last-pass :
       (n : ℕ) (s : State) (m : Marks) (k : ℕ) → 0 < n → allDone (pass book rs s .turns) ≡ true →
-      passesBy (instant book n rs s) m k ≡ passesOf (pass book rs s .state) (marksAfter (pass book rs s .told) m) (k + 1)
+      passesBy (instant book n rs s) m k ≡ passesOf (pass book rs s .state) (marksAfter (pass book rs s .trace) m) (k + 1)
   last-pass n s m k h done = rw (one-more n s h, done)
 
   next-pass :
       (n : ℕ) (s : State) (m : Marks) (k : ℕ) → 0 < n → allDone (pass book rs s .turns) ≡ false →
       passesBy (instant book n rs s) m k
-      ≡ passesBy (instant book (n - 1) rs (again (pass book rs s .state))) (marksAfter (pass book rs s .told) m) (k + 1)
+      ≡ passesBy (instant book (n - 1) rs (forNextPass (pass book rs s .state))) (marksAfter (pass book rs s .trace) m) (k + 1)
   next-pass n s m k h done =
-      let rest = instant book (n - 1) rs (again (pass book rs s .state)) in
+      let rest = instant book (n - 1) rs (forNextPass (pass book rs s .state)) in
       let sum : k + (rest .passes + 1) ≡ k + 1 + rest .passes = omega arith in
-      rw (one-more n s h, done, marks-append (pass book rs s .told) (rest .played .told) m, sum)
+      rw (one-more n s h, done, marks-append (pass book rs s .trace) (rest .played .trace) m, sum)
 
   pub no-pass : (s : State) (m : Marks) (k : ℕ) → passesBy (instant book 0 rs s) m k ≡ passesOf s m k
   unfolding instant marksIn marksPut
@@ -65,7 +65,7 @@ module _ (book : List ℕ) (rs : List ℕ) where
 
   asks-next :
       (room n : ℕ) (s : State) → 0 < n → allDone (pass book rs s .turns) ≡ false → PassesAsk room book n rs s →
-      PassesAsk room book (n - 1) rs (again (pass book rs s .state))
+      PassesAsk room book (n - 1) rs (forNextPass (pass book rs s .state))
   unfolding PassesAsk
   asks-next room zero s h d f = absurd (omega arith)
   asks-next room (suc n) s h d f = rw (sub-one (suc n)) (f .1 d)
@@ -117,7 +117,8 @@ module _
     state-passed g = ap (λ (x : Passing). x .state) (passed g)
 
     marks-passed :
-        (g : Game) → marksOf marks′ (tally′ .marks) ≡ marksAfter (pass book (entriesOf order) (held g) .told) (marksOf marks (tally .marks))
+        (g : Game) → marksOf marks′ (tally′ .marks)
+        ≡ marksAfter (pass book (entriesOf order) (held g) .trace) (marksOf marks (tally .marks))
     marks-passed g = ap (λ (x : Passing). x .marks) (passed g)
 
     all-done : (g : Game) → allDone (pass book (entriesOf order) (held g) .turns) ≡ done
@@ -145,10 +146,10 @@ module _
           leads =
               λ g.
               let next = next-pass book (entriesOf order) (mostPasses - passes) (held g) _ passes (omega arith) (all-done g ∙ d) in
-              rw (left, ← (again-held g counters′ flags′ fields′ given′ tally′ eoi), state-passed g, marks-passed g)
+              rw (left, ← (next-pass-held g counters′ flags′ fields′ given′ tally′ eoi), state-passed g, marks-passed g)
               (sym next ∙ i .leads g);
           asks =
               λ g f.
-              rw (left, ← (again-held g counters′ flags′ fields′ given′ tally′ eoi), state-passed g)
+              rw (left, ← (next-pass-held g counters′ flags′ fields′ given′ tally′ eoi), state-passed g)
               (asks-next book (entriesOf order) _ (mostPasses - passes) (held g) (omega arith) (all-done g ∙ d) (i .asks g f));
         }

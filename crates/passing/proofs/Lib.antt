@@ -1,6 +1,6 @@
 pub mod Held
 pub mod Left
-pub mod Told
+pub mod TurnMarks
 pub mod Runs
 pub mod Turning
 pub mod OnePass

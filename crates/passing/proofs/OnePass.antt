@@ -21,7 +21,7 @@ use Rattle.tables.specs.Tables.{stateOf, Whole}
 use Rattle.passing.specs.Effects.{Marks, marksOf, marksPut}
 use Rattle.passing.specs.Turns.{TurnAsks, Behind, turned, turnedBy}
 use Rattle.passing.specs.Passes.{PassAsks, passing, passedBy}
-use Rattle.passing.proofs.Told.{marks-append}
+use Rattle.passing.proofs.TurnMarks.{marks-append}
 
 -- the turn of one routine, and those behind it
 pass-on :
@@ -31,7 +31,7 @@ unfolding pass
 pass-on book r rs s m done b e =
     let first = turn book r s in
     let rest = pass book rs (first .state) in
-    rw (e, marks-append (first .told), done-append (first .turns), ← (and-assoc done (allDone (first .turns)) (allDone (rest .turns))))
+    rw (e, marks-append (first .trace), done-append (first .turns), ← (and-assoc done (allDone (first .turns)) (allDone (rest .turns))))
 
 pub pass-none : (book : List ℕ) (s : State) (m : Marks) (done : Bool) → passedBy (pass book [] s) m done ≡ passing s m done
 unfolding pass marksIn marksPut allDone

@@ -16,7 +16,7 @@ use Rattle.round.specs.declared.Effect.{Effect}
 use Rattle.round.specs.declared.Effect.the-variants.{Nothing, Mark, Put, Add, Give, GiveNumber, Start, Stop, Suspend, Resume}
 use Rattle.round.specs.declared.Act.{Act}
 use Rattle.round.specs.declared.Act.the-variants.{Goes, Halts}
-use Rattle.round.specs.State.{State, Happening}
+use Rattle.round.specs.State.{State, Event}
 use Rattle.round.specs.Rounds.{mostTicks}
 use Rattle.round.specs.Ticks.{fresh, tick, effectOn}
 use Rattle.round.proofs.Acts.{Right, nothing, mark, put, add, give, giveNumber, start, stop, suspend, resume, Sorted}
@@ -25,7 +25,7 @@ use Rattle.tables.specs.declared.Tally.{Tally}
 use Rattle.tables.specs.Tables.{stateOf, Whole}
 use Rattle.tables.proofs.Lists.{pairs-length}
 use Rattle.ticking.specs.Acts.{actAt}
-use Rattle.ticking.proofs.Told.{act-same}
+use Rattle.ticking.proofs.StepMarks.{act-same}
 use Rattle.passing.specs.Effects.{HasRoom, FitsTables, Marks, marksOf, markedBy}
 use Rattle.passing.specs.Turns.{Run, runs, followRun, runOf, positionIn, Roomy, Playable}
 
@@ -112,11 +112,11 @@ module _ {steps : List ℕ} (p : Playable steps) where
   goes-fits x s q e h =
       let goes = act-same 0 steps x s (p .counts) (p .decodes) ∙ h in
       let t = tick (p .counts) 0 steps x s in
-      right-fits (sorted-right (t .act) (t .told) goes (sorted (p .counts) 0 steps x s))
+      right-fits (sorted-right (t .act) (t .events) goes (sorted (p .counts) 0 steps x s))
     where
       sorted-right :
-          (a : Act) (told : List Happening) → a ≡ Goes q e → Sorted (p .counts) 0 steps x s a told → Right (p .counts) s e
-      sorted-right a told same h = (rw same at h) .1
+          (a : Act) (events : List Event) → a ≡ Goes q e → Sorted (p .counts) 0 steps x s a events → Right (p .counts) s e
+      sorted-right a events same h = (rw same at h) .1
 
 -- as many numbers are given as the tables count
 given-held :

@@ -21,7 +21,7 @@ use Rattle.tables.specs.Tables.{suspendedRow, stagesRow, rowAt, routineIn, stat
 use Rattle.tables.proofs.Lists.{below-read}
 use Rattle.passing.specs.Effects.{Marks, marksPut}
 use Rattle.passing.specs.Turns.{Run, runOf, positionIn, Roomy, Ready, isPassedOver, Behind, turned, turnedBy}
-use Rattle.passing.proofs.Told.{heldBy, run-ticks}
+use Rattle.passing.proofs.TurnMarks.{heldBy, run-ticks}
 
 module _ (g : Game) (counters : List ℤ) (flags : List Bool) (fields : List ℕ) (given : List ℤ) (t : Tally) (eoi : Bool) where
   abbrev held : State

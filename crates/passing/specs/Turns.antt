@@ -1,4 +1,4 @@
--- The steps of a turn, and a turn, as the code takes them: the definitions' own, with the marks in their buffer in place of what is told.
+-- The steps of a turn, and a turn, as the code takes them: the definitions' own, with the marks in their buffer in place of the trace.
 use Prim.Native.Nat.{ℕ, zero, suc, _+_, _*_, _≤_, _<_}
 use mathlib.Core.Path.{_≡_}
 use mathlib.Core.Bool.{Bool, false, _||_, not}
@@ -17,9 +17,9 @@ use Rattle.round.specs.declared.Position.{Position}
 use Rattle.round.specs.declared.Act.{Act}
 use Rattle.round.specs.declared.Act.the-variants.{Goes, Halts}
 use Rattle.round.specs.declared.Turn.{Turn}
-use Rattle.round.specs.State.{State, Happening}
+use Rattle.round.specs.State.{State, Event}
 use Rattle.round.specs.Ticks.{fresh, effectOn}
-use Rattle.round.specs.Rounds.{Played, ticksOf}
+use Rattle.round.specs.Rounds.{PlayedTurns, ticksOf}
 use Rattle.round.specs.Answers.{marksIn}
 use Rattle.tables.specs.Tables.{rowAt, placesRow, leftsRow, begunRow}
 use Rattle.ticking.specs.Acts.{actAt, AllWithin, Decodes}
@@ -92,9 +92,9 @@ pub record TurnFits (room : ℕ) (book : List ℕ) (r : ℕ) (s : State) : Type 
 abbrev pub TurnAsks : ℕ → List ℕ → ℕ → State → Type 0
 TurnAsks room book r s = isPassedOver s r ≡ false → TurnFits room book r s
 
--- the marks behind what is told
-abbrev pub marksAfter : List Happening → Marks → Marks
-marksAfter told m = marksPut (marksIn told) m
+-- the marks behind some events
+abbrev pub marksAfter : List Event → Marks → Marks
+marksAfter events m = marksPut (marksIn events) m
 
 -- turns: the state and the marks behind them, and how each came out
 pub record Behind : Type 0 where
@@ -106,5 +106,5 @@ pub record Behind : Type 0 where
 abbrev pub turned : State → Marks → Turn → Behind
 turned s m t = record { state = s; marks = m; turns = t ∷ [] }
 
-abbrev pub turnedBy : Played → Marks → Behind
-turnedBy p m = record { state = p .state; marks = marksAfter (p .told) m; turns = p .turns }
+abbrev pub turnedBy : PlayedTurns → Marks → Behind
+turnedBy p m = record { state = p .state; marks = marksAfter (p .trace) m; turns = p .turns }

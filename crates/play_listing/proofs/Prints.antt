@@ -11,7 +11,7 @@ use Rattle.numbers.proofs.Tests.{by-flag}
 use Rattle.verdicts.specs.declared.Verdict.{Verdict}
 use Rattle.verdicts.specs.Verdicts.{accepted}
 use Rattle.book.specs.Accepted.{Accepted}
-use Rattle.book.proofs.Telling.{accepted-tells}
+use Rattle.book.proofs.Reasons.{accepted-exactly}
 use Rattle.game.specs.declared.Game.{Game}
 use Rattle.game.specs.Game.{blankGame}
 use Rattle.fitting.specs.Fits.{Fits}
@@ -69,7 +69,7 @@ module _ (book : List ℕ) (a : Accepted book) where
 
   accepts : setUp book blankGame .verdict ≡ accepted
   unfolding setUp
-  accepts = accepted-tells book .1 a
+  accepts = accepted-exactly book .1 a
 
   pub prints-play : PrintsPlay book
   unfolding printed

@@ -19,9 +19,9 @@ use Rattle.fitting.specs.Fits.{Fits}
 use Rattle.fitting.proofs.Decides.{fits-decides}
 use Rattle.round.specs.Rounds.{round}
 use Rattle.round.specs.Answers.{Answer, spaceFor, roundVerdict, turnedDown, playedOut, answer}
-use Rattle.round.specs.claims.Tells.{RoundTells}
+use Rattle.round.specs.claims.Reasons.{RoundReason}
 use Rattle.round.specs.claims.Demand.{Demand3}
-use Rattle.round.proofs.Telling.{round-told-only, turned-down, played-out, answer-verdict}
+use Rattle.round.proofs.Reasons.{round-reason-only, turned-down, played-out, answer-verdict}
 use Rattle.round.proofs.Demand.{round-accepted, answer-demand-3}
 use Rattle.rules.specs.Claims.{ByTheRules}
 use Rattle.rules.proofs.Adequacy.{round-by-the-rules}
@@ -41,14 +41,14 @@ module _ (book : List ℕ) (g : Game) (buffer : List ℤ) where
     book-refuses e n = refuses (e ∙ sym (orElse-refused (bookVerdict book) _ (rw (← e) n))) n
 
     -- the others
-    told-refuses : {k : ℕ} → v ≡ refused (suc k) 0 → RoundTells book g buffer (refused (suc k) 0) → Refuses
-    told-refuses {k} e t = refuses (e ∙ sym (round-told-only t)) (λ z. omega (arith, ap (λ (w : Verdict). w .number) e, z))
+    reason-refuses : {k : ℕ} → v ≡ refused (suc k) 0 → RoundReason book g buffer (refused (suc k) 0) → Refuses
+    reason-refuses {k} e t = refuses (e ∙ sym (round-reason-only t)) (λ z. omega (arith, ap (λ (w : Verdict). w .number) e, z))
 
     pub unfit-refuses : v ≡ refused 9 0 → Accepted book → fitsBook book g ≡ false → Refuses
-    unfit-refuses e a h = told-refuses e (RoundTells.unfit a (λ f. clash (fits-decides book (a .laid .counts) g .1 f) h))
+    unfit-refuses e a h = reason-refuses e (RoundReason.unfit a (λ f. clash (fits-decides book (a .laid .counts) g .1 f) h))
 
     pub short-refuses : v ≡ refused 10 0 → Accepted book → Fits book g → length buffer < spaceFor book → Refuses
-    short-refuses e a f h = told-refuses e (RoundTells.short a f h)
+    short-refuses e a f h = reason-refuses e (RoundReason.short a f h)
 
   -- 11 is never told
   pub plays : Accepted book → Fits book g → spaceFor book ≤ length buffer → playedOut accepted (round book g) buffer ≡ answer book g buffer

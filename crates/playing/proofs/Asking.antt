@@ -25,11 +25,11 @@ use Rattle.round.specs.declared.Ending.{Ending}
 use Rattle.round.specs.declared.Position.{Position}
 use Rattle.round.specs.State.{State}
 use Rattle.round.specs.Actions.{positionOf}
-use Rattle.round.specs.Rounds.{withEnd, afterTurn, allDone, again, ticksOf, turn, pass, instant}
+use Rattle.round.specs.Rounds.{withEnd, afterTurn, allDone, forNextPass, ticksOf, turn, pass, instant}
 use Rattle.round.specs.claims.Sound.{Sound}
 use Rattle.round.proofs.Coming.{turn-untouched}
 use Rattle.round.proofs.AfterTurn.{end-keeps, turn-taken, position-after}
-use Rattle.round.proofs.TurnSound.{turn-sound, again-sound}
+use Rattle.round.proofs.TurnSound.{turn-sound, next-pass-sound}
 use Rattle.round.proofs.Given.{pass-gives, instant-gives}
 use Rattle.round.proofs.After.{pass-keeps}
 use Rattle.ticking.specs.Acts.{Within}
@@ -131,5 +131,5 @@ module _ (book : List ℕ) (a : Accepted book) where
           (λ done. (pass-asks rs l s sound (rw done at h), λ e. clash done e))
           (λ more.
           let later = rw more at h in
-          let roomy : Roomy room u = omega (arith, later, instant-gives book n rs (again u)) in
-          (pass-asks rs l s sound roomy, λ e. passes-ask n (again u) (again-sound u (pass-keeps book a rs l s sound .0)) later))
+          let roomy : Roomy room u = omega (arith, later, instant-gives book n rs (forNextPass u)) in
+          (pass-asks rs l s sound roomy, λ e. passes-ask n (forNextPass u) (next-pass-sound u (pass-keeps book a rs l s sound .0)) later))

@@ -20,7 +20,7 @@ use Rattle.game.specs.Game.{blank, routineAt}
 use Rattle.fitting.specs.Fits.{Fits}
 use Rattle.round.specs.State.{State}
 use Rattle.round.specs.Actions.{atStart}
-use Rattle.round.specs.Rounds.{round, historyOf}
+use Rattle.round.specs.Rounds.{round, traceOf}
 use Rattle.round.specs.Answers.{marksIn, spaceFor, playedOut}
 use Rattle.round.proofs.After.{round-fits}
 use Rattle.round.proofs.Once.{completed-once}
@@ -92,7 +92,7 @@ module _
         answered (record { verdict = v; game = next; passes = passes; marks = tally .marks }) after
         ≡ playedOut accepted (round book g) before
     finished order v next listed right is space =
-        let marks = marksIn (historyOf book g) in
+        let marks = marksIn (traceOf book g) in
         let m = d .marked ∙ marks-front marks before (omega (arith, space, completed-once book a g f .space)) in
         let count : tally .marks ≡ length marks = ap (λ (k : Marks). k .count) m in
         rw (right, is, game-held order listed, d .passed, ap (λ (k : Marks). k .buffer) m, count)

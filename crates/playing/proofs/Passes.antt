@@ -22,7 +22,7 @@ use Rattle.tables.specs.declared.Tally.{Tally}
 use Rattle.tables.specs.Tables.{stateOf, Whole}
 use Rattle.passing.specs.Effects.{marksOf}
 use Rattle.passing.specs.Turns.{Roomy, Ready}
-use Rattle.passing.specs.Passes.{PassesAsk, Passes, passes, passesBy}
+use Rattle.passing.specs.Passes.{PassesAsk, AfterPasses, passes, passesBy}
 use Rattle.opening.specs.Games.{noTally, Opened}
 use Rattle.playing.specs.Playing.{Done}
 use Rattle.playing.proofs.Asking as asking
@@ -85,8 +85,8 @@ module _
         record {
           given = given′;
           eoi = eoi;
-          holds = ap (λ (p : Passes). p .state) same;
-          marked = ap (λ (p : Passes). p .marks) same;
-          passed = ap (λ (p : Passes). p .passes) same ∙ zero-add _;
+          holds = ap (λ (p : AfterPasses). p .state) same;
+          marked = ap (λ (p : AfterPasses). p .marks) same;
+          passed = ap (λ (p : AfterPasses). p .passes) same ∙ zero-add _;
           fieldsLong = whole .fieldsLong;
         }

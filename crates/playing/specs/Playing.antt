@@ -23,7 +23,7 @@ pub record Done
   pub given : List ℤ
   pub eoi : Bool
   pub holds : stateOf (atStart g .game) counters flags fields given tally eoi ≡ round book g .played .state
-  pub marked : marksOf after (tally .marks) ≡ marksAfter (round book g .played .told) (marksOf before 0)
+  pub marked : marksOf after (tally .marks) ≡ marksAfter (round book g .played .trace) (marksOf before 0)
   pub passed : passes ≡ round book g .passes
   pub fieldsLong : length fields ≡ fieldCount
 

@@ -18,7 +18,7 @@ use tables::FLAGS;
 use tables::Tally;
 use verdicts::UNFIT;
 use verdicts::Verdict;
-use verdicts::told;
+use verdicts::as_verdict;
 use verdicts::verdict_of;
 ghost use mathlib.Core.Path.{_≡_};
 ghost use mathlib.Core.List.{List};
@@ -143,7 +143,7 @@ pub fn round(book: &[u8], game: Game, marks: &mut [i32]) -> Played
         &fields,
     );
     Played {
-        verdict: told(0, 0),
+        verdict: as_verdict(0, 0),
         game: next,
         passes: p.passes,
         marks: p.tally.marks,
@@ -198,10 +198,10 @@ pub fn play(book: &[u8], game: Game, marks: &mut [i32]) -> Played
         return turned_down(verdict, game);
     }
     if !fits(book, game) {
-        return turned_down(told(UNFIT, 0), game);
+        return turned_down(as_verdict(UNFIT, 0), game);
     }
     if marks.len() < NUMBERS_PER_PAIR * mark_steps(book) {
-        return turned_down(told(SHORT_BUFFER, 0), game);
+        return turned_down(as_verdict(SHORT_BUFFER, 0), game);
     }
     round(book, game, marks)
 }

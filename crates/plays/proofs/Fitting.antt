@@ -1,9 +1,9 @@
 -- Every game of a play fits its book: set-up and accepted rounds give games that do, and an order keeps whether one does.
 use Prim.Native.Nat.{ℕ}
-use mathlib.Core.Path.{_≡_, _∙_}
+use mathlib.Core.Path.{_∙_}
 use mathlib.Core.List.{List}
 use Rattle.book.specs.Accepted.{Accepted}
-use Rattle.book.proofs.Telling.{accepted-tells}
+use Rattle.book.proofs.Reasons.{accepted-exactly}
 use Rattle.game.specs.declared.Game.{Game}
 use Rattle.fitting.specs.Fits.{Fits}
 use Rattle.fitting.proofs.Decides.{fits-decides}
@@ -23,4 +23,4 @@ module _ (book : List ℕ) where
 
   pub play-fits : {g : Game} {calls : List Call} → Play book calls g → Fits book g
   unfolding setUp
-  play-fits p = from-fits (accepted-tells book .0 (p .accepts)) (p .from) (set-up-fits book (p .lent) (p .accepts))
+  play-fits p = from-fits (accepted-exactly book .0 (p .accepts)) (p .from) (set-up-fits book (p .lent) (p .accepts))

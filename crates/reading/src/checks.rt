@@ -12,10 +12,10 @@ use layout::limits_in;
 use layout::routines;
 use layout::steps;
 use layout::steps_from;
-use verdicts::Answer;
+use verdicts::BookAnswer;
 use verdicts::WRONG_NESTING;
 use verdicts::WRONG_STEP;
-use verdicts::first_answer;
+use verdicts::first_book_answer;
 use verdicts::verdict_of;
 ghost use mathlib.Core.Path.{_≡_};
 ghost use Prim.Native.Nat.{_+_, _<_};
@@ -29,7 +29,7 @@ ghost use Rattle.book.specs.Book.{stepsVerdict, nestingVerdict, pausingVerdict,
 
 // Refusal 5, over the whole book. Only a book that nests wrongly needs it: in any other the readers of blocks have met the first wrong
 // step.
-pub fn check_steps(book: &[u8]) -> Answer
+pub fn check_steps(book: &[u8]) -> BookAnswer
     requires { ⌜ layoutVerdict (now book) ≡ accepted ⌝ }
     ensures { λ r. ⌜ verdictOf r ≡ stepsVerdict (now (book .entry)) ⌝ }
 {
@@ -41,11 +41,11 @@ pub fn check_steps(book: &[u8]) -> Answer
     while at < all {
         let decoded = step_within(part, &limits, at);
         let Step::Kind(_) = decoded else {
-            return Answer::WrongStep(at as u32);
+            return BookAnswer::WrongStep(at as u32);
         };
         at += 1;
     }
-    Answer::Accepted
+    BookAnswer::Accepted
 }
 
 // A number of the directory, whose two bytes are there: without the tests of the length that `directory` makes.
@@ -65,7 +65,7 @@ fn numbered(first: usize, at: usize) -> u32
 }
 
 // Refusals 6 and 7 for one routine, and the readers' own 5, read from the part of the book that begins at its first step.
-fn check_routine(book: &[u8], limits: &Limits, routine: usize) -> Answer
+fn check_routine(book: &[u8], limits: &Limits, routine: usize) -> BookAnswer
     requires { ⌜ now limits ≡ limitsOf (countsOf (now book)) ⌝ }
     requires { ⌜ layoutVerdict (now book) ≡ accepted ⌝ }
     requires { ⌜ directoryVerdict (now book) ≡ accepted ⌝ }
@@ -78,28 +78,28 @@ fn check_routine(book: &[u8], limits: &Limits, routine: usize) -> Answer
     let walk = read_routine(&book[from..], limits, count);
     match walk {
         Walk::Fault(fault) => match fault {
-            Fault::Unreadable(at) => Answer::WrongStep(numbered(first, at)),
-            Fault::Misnested(at) => Answer::WrongNesting(numbered(first, at)),
+            Fault::Unreadable(at) => BookAnswer::WrongStep(numbered(first, at)),
+            Fault::Misnested(at) => BookAnswer::WrongNesting(numbered(first, at)),
         },
         Walk::Past(_, _, endless) => {
             if endless < count {
-                Answer::WithoutPause(numbered(first, endless))
+                BookAnswer::WithoutPause(numbered(first, endless))
             } else {
-                Answer::Accepted
+                BookAnswer::Accepted
             }
         }
     }
 }
 
 // Refusals 6 and 7, and the readers' own 5, over the whole book: 5 and 6 are told at once, the first 7 only where no routine has either.
-pub fn check_blocks(book: &[u8]) -> Answer
+pub fn check_blocks(book: &[u8]) -> BookAnswer
     requires { ⌜ layoutVerdict (now book) ≡ accepted ⌝ }
     requires { ⌜ directoryVerdict (now book) ≡ accepted ⌝ }
     ensures { λ r. ⌜ verdictOf r ≡ (nestingVerdict (now (book .entry)) orElse pausingVerdict (now (book .entry))) ⌝ }
 {
     let limits = limits_in(book);
     let all = routines(book);
-    let mut unpaused = Answer::Accepted;
+    let mut unpaused = BookAnswer::Accepted;
     let mut routine: usize = 0;
     while routine < all {
         let found = check_routine(book, &limits, routine);
@@ -110,7 +110,7 @@ pub fn check_blocks(book: &[u8]) -> Answer
         if verdict.number == WRONG_NESTING {
             return found;
         }
-        unpaused = first_answer(unpaused, found);
+        unpaused = first_book_answer(unpaused, found);
         routine += 1;
     }
     unpaused

@@ -1,4 +1,4 @@
--- What a step comes to, in the few cases into which Sorting.antt sorts the 21 kinds: it goes on, with an effect and what it tells of it, or
+-- What a step comes to, in the few cases into which Sorting.antt sorts the 21 kinds: it goes on, with an effect and its events, or
 -- it halts the turn, for one of four reasons. Nearly all laws of turns speak of these cases.
 use Prim.Native.Nat.{ℕ, _+_, _<_, _≤_}
 use mathlib.Core.Path.{_≡_}
@@ -12,7 +12,7 @@ use Rattle.numbers.specs.declared.Sum.{Sum}
 use Rattle.numbers.specs.Numbers.{CounterInRange}
 use Rattle.kinds.specs.declared.Step.{Step}
 use Rattle.kinds.specs.declared.Counts.{Counts}
-use Rattle.kinds.specs.Steps.{opAt, stepAt}
+use Rattle.kinds.specs.Steps.{opAt, stepAt, stepsIn}
 use Rattle.forms.specs.Timed.{MayBeLeft}
 use Rattle.game.specs.Game.{counterAt}
 use Rattle.round.specs.declared.Ending.{Ending}
@@ -22,8 +22,7 @@ use Rattle.round.specs.declared.Effect.{Effect}
 use Rattle.round.specs.declared.Effect.the-variants.{Nothing, Mark, Put, Add, Give, GiveNumber, Start, Stop, Suspend, Resume}
 use Rattle.round.specs.declared.Act.{Act}
 use Rattle.round.specs.declared.Act.the-variants.{Goes, Halts}
-use Rattle.round.specs.State.{State, Thing, Happening, gave, ended, missing, past, marked, numbersOf, isThere}
-use Rattle.round.specs.Jumps.{sizeOf}
+use Rattle.round.specs.State.{State, Thing, Event, gave, ended, missing, past, marked, numbersOf, isThere}
 use Rattle.round.specs.Ticks.{Tick, countAt}
 use Rattle.round.specs.claims.Demand.{isSignalOp, AsksFor, wait, waitFor, join, joinFor, read}
 use Rattle.round.proofs.Leads.{Leaves}
@@ -60,9 +59,9 @@ isGiving (Stop t) = false
 isGiving (Suspend t) = false
 isGiving (Resume t) = false
 
--- the op of a step that tells of a signal or a mark
-abbrev pub isTelling : ℕ → Bool
-isTelling op = isSignalOp op || eqb op opMark
+-- the op of a step that gives a signal or a mark
+abbrev pub isSignalOrMark : ℕ → Bool
+isSignalOrMark op = isSignalOp op || eqb op opMark
 
 -- some is left of the count of a timed step that asks for a thing
 abbrev SomeLeft : Position → {st : Step} {t : Thing} → AsksFor st t → Type 0
@@ -79,26 +78,26 @@ Asks x st t = (asks : AsksFor st t) × SomeLeft x asks
 module _ (counts : Counts) (steps : List ℕ) where
   -- what fitting asks of a routine's position
   pub record Stands (x : Position) : Type 0 where
-    pub inside : x .place ≤ sizeOf steps
+    pub inside : x .place ≤ stepsIn steps
     pub whereBegun : x .begun ≡ true → MayBeLeft (stepAt counts steps (x .place)) (x .left)
     pub elsewhere : x .begun ≡ false → x .left ≡ 0
 
 -- routine r stands at position x
 module _ (counts : Counts) (r : ℕ) (steps : List ℕ) (x : Position) (s : State) where
-  -- what a step that goes on tells of its effect
-  pub data Says : Effect → List Happening → Type 0 where
-    silent : {e : Effect} → isGiving e ≡ false → isTelling (opAt steps (x .place)) ≡ false → Says e []
+  -- the events of a step that goes on, by its effect
+  pub data Says : Effect → List Event → Type 0 where
+    silent : {e : Effect} → isGiving e ≡ false → isSignalOrMark (opAt steps (x .place)) ≡ false → Says e []
     marks : {n : ℤ} → opAt steps (x .place) ≡ opMark → Says (Mark n) (marked r n ∷ [])
     gives : {e : ℕ} → isSignalOp (opAt steps (x .place)) ≡ true → Says (Give e) (gave e 0 ∷ [])
     givesNumber :
         {e : ℕ} {v : ℤ} → isSignalOp (opAt steps (x .place)) ≡ true →
         Says (GiveNumber e v) (gave e (length (numbersOf s e) + 1) ∷ [])
     finds :
-        {e : Effect} {t : Thing} → isGiving e ≡ false → isTelling (opAt steps (x .place)) ≡ false →
+        {e : Effect} {t : Thing} → isGiving e ≡ false → isSignalOrMark (opAt steps (x .place)) ≡ false →
         AsksFor (stepAt counts steps (x .place)) t → isThere s t ≡ true → Says e (past r (x .place) t ∷ [])
 
-  -- why a step halts the turn, and what it tells
-  pub data Stops : Ending → Position → List Happening → Type 0 where
+  -- why a step halts the turn, and its events
+  pub data Stops : Ending → Position → List Event → Type 0 where
     ends : {y : Position} → Stops Ended y (ended r ∷ [])
     rests : {y : Position} → Stops Rested y []
     misses :
@@ -108,9 +107,9 @@ module _ (counts : Counts) (r : ℕ) (steps : List ℕ) (x : Position) (s : Stat
         {t : Thing} → Asks x (stepAt counts steps (x .place)) t → isThere s t ≡ false → s .eoi ≡ false →
         Stops Continued x (missing r (x .place) t ∷ [])
 
-  abbrev pub Sorted : Act → List Happening → Type 0
-  Sorted (Goes q e) told = Leaves counts steps x q × Right counts s e × Says e told
-  Sorted (Halts how y) told = (Stands counts steps x → Stands counts steps y) × Stops how y told
+  abbrev pub Sorted : Act → List Event → Type 0
+  Sorted (Goes q e) events = Leaves counts steps x q × Right counts s e × Says e events
+  Sorted (Halts how y) events = (Stands counts steps x → Stands counts steps y) × Stops how y events
 
   abbrev pub SortedTick : Tick → Type 0
-  SortedTick t = Sorted (t .act) (t .told)
+  SortedTick t = Sorted (t .act) (t .events)

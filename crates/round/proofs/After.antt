@@ -14,17 +14,17 @@ use Rattle.book.specs.Accepted.{Accepted}
 use Rattle.game.specs.declared.Game.{Game}
 use Rattle.game.specs.Game.{routineAt}
 use Rattle.fitting.specs.Fits.{Fits}
-use Rattle.round.specs.State.{State, withMoves, Happening}
+use Rattle.round.specs.State.{State, withMoves, Event}
 use Rattle.round.specs.Actions.{atStart}
-use Rattle.round.specs.Rounds.{again, mostPasses, listedIn, turn, pass, instant, round, back, historyOf}
+use Rattle.round.specs.Rounds.{forNextPass, mostPasses, listedIn, turn, pass, instant, round, stateAfter, traceOf}
 use Rattle.round.specs.Answers.{answer}
 use Rattle.round.specs.claims.Sound.{Sound}
-use Rattle.round.proofs.Telling.{accepted-played}
+use Rattle.round.proofs.Reasons.{accepted-played}
 use Rattle.round.proofs.Among.{all-among}
 use Rattle.round.proofs.Along.{pass-along, instant-along}
 use Rattle.round.proofs.TurnLaws.{Turned}
 use Rattle.round.proofs.StartSound.{listed-below, at-start-sound}
-use Rattle.round.proofs.TurnSound.{turn-sound, again-sound}
+use Rattle.round.proofs.TurnSound.{turn-sound, next-pass-sound}
 use Rattle.round.proofs.Turned.{turn-turned}
 
 -- what a round keeps from state s to state u
@@ -33,14 +33,14 @@ pub record Kept (s u : State) : Type 0 where
   pub suspended : (r : ℕ) → routineAt (u .game) r .suspended ≡ routineAt (s .game) r .suspended
 
 module _ (book : List ℕ) (a : Accepted book) where
-  abbrev Keeps : State → List Happening → State → Type 0
-  Keeps s told u = Kept s u
+  abbrev Keeps : State → List Event → State → Type 0
+  Keeps s events u = Kept s u
 
   -- other flags, or the same
   flags-keep : (s : State) {moved eoi : Bool} → Kept s (withMoves s moved eoi)
   flags-keep s = record { listed = refl; suspended = λ r. refl }
 
-  keeps-both : (s u v : State) (b c : List Happening) → Keeps s b u → Keeps u c v → Keeps s [] v
+  keeps-both : (s u v : State) (b c : List Event) → Keeps s b u → Keeps u c v → Keeps s [] v
   keeps-both s u v b c one two =
       record {
         listed = two .listed ∙ one .listed;
@@ -62,33 +62,33 @@ module _ (book : List ℕ) (a : Accepted book) where
       Sound book (instant book n rs s .played .state) × Kept s (instant book n rs s .played .state)
   instant-keeps =
       instant-along Keeps (λ s. flags-keep s) keeps-both book (Sound book) (λ r. r < routinesOf book) (turn-sound book a) turn-keeps
-      again-sound (λ s. flags-keep s)
+      next-pass-sound (λ s. flags-keep s)
 
   module _ (g : Game) (f : Fits book g) where
     module _
-        (Claim : State → List Happening → State → Type 0) (none : (s : State) → Claim s [] s)
-        (both : (s u v : State) (b c : List Happening) → Claim s b u → Claim u c v → Claim s (b ++ c) v)
+        (Claim : State → List Event → State → Type 0) (none : (s : State) → Claim s [] s)
+        (both : (s u v : State) (b c : List Event) → Claim s b u → Claim u c v → Claim s (b ++ c) v)
       where
         abbrev OfTurn : ℕ → State → Type 0
-        OfTurn r s = Claim s (turn book r s .told) (turn book r s .state)
+        OfTurn r s = Claim s (turn book r s .trace) (turn book r s .state)
 
         -- what holds of each turn of a listed routine in a sound state holds of a round
         pub round-along :
             ((r : ℕ) (s : State) → (r < routinesOf book) × Among r (listedIn g) → Sound book s → OfTurn r s) →
-            ((s : State) → Claim s [] (again s)) → Claim (atStart g) (historyOf book g) (back book g)
+            ((s : State) → Claim s [] (forNextPass s)) → Claim (atStart g) (traceOf book g) (stateAfter book g)
         unfolding round
-        round-along turns agains =
+        round-along turns nextPass =
             let L = listedIn g in
             let start = at-start-sound book g a f in
             let Below : ℕ → Type 0 = λ r. r < routinesOf book in
             instant-along Claim none both book (Sound book) (λ r. Below r × Among r L) (λ r s l. turn-sound book a r s (l .0)) turns
-            again-sound agains mostPasses L (all-among Below L (listed-below start)) (atStart g) start .1
+            next-pass-sound nextPass mostPasses L (all-among Below L (listed-below start)) (atStart g) start .1
 
         -- so does what holds of routine r's own turns, and of the others' by what a turn does
         pub own-and-others :
             (r : ℕ) → ((s : State) → r < routinesOf book → Sound book s → OfTurn r s) →
-            ((q : ℕ) (s : State) → r ≢ q → Turned q s (turn book q s .told) (turn book q s .state) → OfTurn q s) →
-            ((s : State) → Claim s [] (again s)) → Claim (atStart g) (historyOf book g) (back book g)
+            ((q : ℕ) (s : State) → r ≢ q → Turned q s (turn book q s .trace) (turn book q s .state) → OfTurn q s) →
+            ((s : State) → Claim s [] (forNextPass s)) → Claim (atStart g) (traceOf book g) (stateAfter book g)
         own-and-others r own other =
             round-along (λ q s (l, _) ok.
             elim (ℕ-discrete r q) [
@@ -96,11 +96,11 @@ module _ (book : List ℕ) (a : Accepted book) where
               | no n ↦ other q s n (turn-turned book a q s l ok)
             ])
 
-    pub round-keeps : Sound book (back book g) × Kept (atStart g) (back book g)
+    pub round-keeps : Sound book (stateAfter book g) × Kept (atStart g) (stateAfter book g)
     unfolding round
     round-keeps = let start = at-start-sound book g a f in instant-keeps mostPasses (listedIn g) (listed-below start) (atStart g) start
 
-    pub round-fits : Fits book (back book g .game)
+    pub round-fits : Fits book (stateAfter book g .game)
     round-fits = round-keeps .0 .fits
 
 -- the game of an accepted answer

@@ -20,7 +20,7 @@ use Rattle.round.specs.declared.Position.{Position}
 use Rattle.round.specs.declared.Turn.the-variants.{Took}
 use Rattle.round.specs.State.{State, withGame, Thing, signal, end, number, hasEnded, isThere}
 use Rattle.round.specs.Actions.{positionOf, placed}
-use Rattle.round.specs.Rounds.{Ticks, stageAfter, withEnd, behindTurn, afterTurn, Played, notTaken, taken, isDone}
+use Rattle.round.specs.Rounds.{Ticks, stageAfter, withEnd, behindTurn, afterTurn, PlayedTurns, notTaken, taken, isDone}
 use Rattle.round.specs.Rounds.{ticksOf, turn}
 use Rattle.round.proofs.Effects.{same-end}
 use Rattle.round.proofs.Standings.{SameStanding}
@@ -49,7 +49,7 @@ end-keeps P Continued r s over h = h
 -- rules 33 and 34
 module _ (book : List ℕ) (r : ℕ) (s : State) where
   pub turn-by :
-      (P : Played → Type 0) → (isGoing s r ≡ false → P (notTaken s)) → (isGoing s r ≡ true → P (taken r (ticksOf book r s))) →
+      (P : PlayedTurns → Type 0) → (isGoing s r ≡ false → P (notTaken s)) → (isGoing s r ≡ true → P (taken r (ticksOf book r s))) →
       P (turn book r s)
   unfolding turn
   turn-by P over on =

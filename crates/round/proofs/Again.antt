@@ -10,6 +10,7 @@ use lib.Seq.{set-getD}
 use Rattle.numbers.specs.Choice.{if_then_else_}
 use Rattle.numbers.proofs.Tests.{by-test, by-flag}
 use Rattle.kinds.specs.declared.Counts.{Counts}
+use Rattle.kinds.specs.Steps.{stepsIn}
 use Rattle.layout.specs.Layout.{routinesOf, countsOf}
 use Rattle.directory.specs.Directory.{routineSteps}
 use Rattle.book.specs.Accepted.{Accepted}
@@ -20,11 +21,10 @@ use Rattle.round.specs.declared.Ending.the-variants.{Missed, Continued}
 use Rattle.round.specs.declared.Position.{Position}
 use Rattle.round.specs.declared.Act.the-variants.{Halts}
 use Rattle.round.specs.declared.Turn.the-variants.{Took}
-use Rattle.round.specs.State.{State, withGame, Thing, Happening, missing, past, completed, isThere}
+use Rattle.round.specs.State.{State, withGame, Thing, Event, missing, past, completed, isThere}
 use Rattle.round.specs.Actions.{positionOf}
-use Rattle.round.specs.Jumps.{sizeOf}
 use Rattle.round.specs.Ticks.{Tick, tick, fresh}
-use Rattle.round.specs.Rounds.{Ticks, follow, ticks, afterTurn, Played, taken, isDone, ticksOf, turn}
+use Rattle.round.specs.Rounds.{Ticks, follow, ticks, afterTurn, PlayedTurns, taken, isDone, ticksOf, turn}
 use Rattle.round.specs.claims.Demand.{IsPast}
 use Rattle.round.specs.claims.Again.{TriesAgain}
 use Rattle.round.proofs.TurnLaws.{isGoing, Waits, waits-too}
@@ -35,12 +35,12 @@ use Rattle.round.proofs.Outcomes.{turn-out, turn-continues}
 -- the first step of a turn settles it, or the others follow
 pub first-tick :
     (counts : Counts) (r : ℕ) (steps : List ℕ) (n : ℕ) (x : Position) (s : State) {t : Tick} → tick counts r steps x s ≡ t →
-    ticks (n + 1) counts r steps x s ≡ follow r (x .place) (t .act) (t .told) s (λ p u. ticks n counts r steps (fresh p) u)
+    ticks (n + 1) counts r steps x s ≡ follow r (x .place) (t .act) (t .events) s (λ p u. ticks n counts r steps (fresh p) u)
 unfolding ticks
 first-tick counts r steps n x s e = rw (add-one, e)
 
 -- a step that is completed as its thing is found
-past-at : {r p q : ℕ} {t : Thing} (rest : List Happening) → q ≡ p → IsPast r p t (completed r q ∷ past r q t ∷ rest)
+past-at : {r p q : ℕ} {t : Thing} (rest : List Event) → q ≡ p → IsPast r p t (completed r q ∷ past r q t ∷ rest)
 past-at {r} {q = q} {t = t} rest e = subst (λ p. IsPast r p t (completed r q ∷ past r q t ∷ rest)) e IsPast.here
 
 module _ (book : List ℕ) where
@@ -54,7 +54,7 @@ module _ (book : List ℕ) where
 
     -- the steps of a turn that ends at once, since t is missing
     abbrev halted : Ending → Position → Ticks
-    halted how y = record { ending = how; position = y; state = s; told = missing r (here .place) t ∷ [] }
+    halted how y = record { ending = how; position = y; state = s; trace = missing r (here .place) t ∷ [] }
 
     halts :
         (closing : Bool) (y : Position) (rest : ℕ → State → Ticks) →
@@ -68,14 +68,14 @@ module _ (book : List ℕ) where
     unfolding tick
     missed-ticks m =
         let (y, asked) = asked-missing r steps here s (waits .asks) m in
-        (y, first-tick (countsOf book) r steps (sizeOf steps) here s asked ∙ halts (s .eoi) y _)
+        (y, first-tick (countsOf book) r steps (stepsIn steps) here s asked ∙ halts (s .eoi) y _)
 
-    pub misses-again : isThere s t ≡ false → turn book r s .told ≡ missing r p t ∷ []
+    pub misses-again : isThere s t ≡ false → turn book r s .trace ≡ missing r p t ∷ []
     misses-again m =
         let (y, all) = missed-ticks m in
-        let told = ap (λ q. missing r q t ∷ []) (waits .place) in
-        ap (λ (k : Played). k .told) (turn-taken book r s going ∙ ap (taken r) all)
-        ∙ by-test (λ (k : Ticks). k .told ≡ missing r p t ∷ []) (s .eoi) (λ h. told) (λ h. told)
+        let events = ap (λ q. missing r q t ∷ []) (waits .place) in
+        ap (λ (k : PlayedTurns). k .trace) (turn-taken book r s going ∙ ap (taken r) all)
+        ∙ by-test (λ (k : Ticks). k .trace ≡ missing r p t ∷ []) (s .eoi) (λ h. events) (λ h. events)
 
     -- to be continued where it stands, the routine is as it was, and so is all else
     same-state : afterTurn r (halted Continued here) ≡ s
@@ -86,18 +86,18 @@ module _ (book : List ℕ) where
 
     pub turn-unchanged :
         isThere s t ≡ false → s .eoi ≡ false →
-        turn book r s ≡ record { state = s; told = missing r p t ∷ []; turns = Took Continued ∷ [] }
+        turn book r s ≡ record { state = s; trace = missing r p t ∷ []; turns = Took Continued ∷ [] }
     turn-unchanged m unclosed =
         let (y, all) = missed-ticks m in
         let whole = subst (λ c. ticksOf book r s ≡ (if c then halted Missed y else halted Continued here)) unclosed all in
         turn-taken book r s going ∙ ap (taken r) whole ∙ rw (same-state, waits .place)
 
-    pub goes-past : isThere s t ≡ true → IsPast r p t (turn book r s .told)
+    pub goes-past : isThere s t ≡ true → IsPast r p t (turn book r s .trace)
     unfolding tick
     goes-past m =
         let (e, asked) = asked-there r steps here s (waits .asks) m in
-        let all = first-tick (countsOf book) r steps (sizeOf steps) here s asked in
-        subst (λ (k : Played). IsPast r p t (k .told)) (sym (turn-taken book r s going ∙ ap (taken r) all)) (past-at _ (waits .place))
+        let all = first-tick (countsOf book) r steps (stepsIn steps) here s asked in
+        subst (λ (k : PlayedTurns). IsPast r p t (k .trace)) (sym (turn-taken book r s going ∙ ap (taken r) all)) (past-at _ (waits .place))
 
   module _ (a : Accepted book) where
     -- a try again with nothing come since leaves everything as it was and continues
@@ -113,7 +113,7 @@ module _ (book : List ℕ) where
           thing = w .thing;
           stands = w .waits .place;
           before = c .before;
-          missed = c .history;
+          missed = c .trace;
           tryAgain =
               λ u stage suspended position missed unclosed.
               let waits = waits-too book r (w .place) (w .thing) (turn book r s .state) u position (w .waits) in

@@ -11,17 +11,17 @@ use Rattle.numbers.specs.Counting.{countBelow}
 use Rattle.numbers.proofs.Below.{below-le}
 use Rattle.numbers.proofs.Tests.{and-both, both-true}
 use Rattle.kinds.specs.declared.Counts.{Counts}
+use Rattle.kinds.specs.Steps.{stepsIn}
 use Rattle.forms.specs.declared.Form.the-variants.{Pausing}
 use Rattle.blocks.specs.Blocks.{stands, deepest}
 use Rattle.blocks.specs.Parse.{ParsedBlock, WhilesPause}
 use Rattle.blocks.proofs.Views.{standing-below}
-use Rattle.round.specs.Jumps.{sizeOf}
 use Rattle.round.proofs.Counting.{one, one-le, count-drops}
 use Rattle.round.proofs.Leads.{isHalt, formAt, Leads}
 use Rattle.round.proofs.Falls.{rank, falls, going-below}
 
 module _ (counts : Counts) (steps : List ℕ) where
-  module _ (b : ParsedBlock (formAt counts steps) deepest 0 (sizeOf steps)) (w : WhilesPause (formAt counts steps) b) where
+  module _ (b : ParsedBlock (formAt counts steps) deepest 0 (stepsIn steps)) (w : WhilesPause (formAt counts steps) b) where
     abbrev rankOf : ℕ → ℕ
     rankOf = rank counts steps b w
 
@@ -30,15 +30,15 @@ module _ (counts : Counts) (steps : List ℕ) where
     isAhead p z = not (isHalt (formAt counts steps z)) && leb (rankOf z) (rankOf p)
 
     pub ahead : (ℕ → Bool) → ℕ → ℕ
-    ahead P p = countBelow (λ z. P z && isAhead p z) (sizeOf steps)
+    ahead P p = countBelow (λ z. P z && isAhead p z) (stepsIn steps)
 
     -- the places that are ahead of a set are of the set
     of-set : (P : ℕ → Bool) (p z : ℕ) → (P z && isAhead p z) ≡ true → P z ≡ true
     of-set P p z h = and-both (P z) (isAhead p z) h .0
 
-    pub ahead-all : (P : ℕ → Bool) (p : ℕ) → ahead P p ≤ countBelow P (sizeOf steps)
+    pub ahead-all : (P : ℕ → Bool) (p : ℕ) → ahead P p ≤ countBelow P (stepsIn steps)
     unfolding ahead
-    ahead-all P p = below-le _ _ (λ z. one-le (P z && isAhead p z) (P z) (of-set P p z)) (sizeOf steps)
+    ahead-all P p = below-le _ _ (λ z. one-le (P z && isAhead p z) (P z) (of-set P p z)) (stepsIn steps)
 
     pub ahead-falls : (P : ℕ → Bool) (p q : ℕ) → Leads counts steps p q → ahead P q + one (P p) ≤ ahead P p
     unfolding ahead
@@ -51,12 +51,12 @@ module _ (counts : Counts) (steps : List ℕ) where
         let (of, there) = and-both (P z) (isAhead q z) h in
         let (on, low) = and-both (not (isHalt (formAt counts steps z))) (leb (rankOf z) (rankOf q)) there in
         both-true of (both-true on (le-leb (rankOf z) (rankOf p) (omega (arith, leb-true (rankOf z) (rankOf q) low)))))
-        (sizeOf steps) p (going-below counts steps p (e .goesOn)) (rw (gone, and-false)) (P p) (λ h. both-true h here)
+        (stepsIn steps) p (going-below counts steps p (e .goesOn)) (rw (gone, and-false)) (P p) (λ h. both-true h here)
 
     pub ahead-over :
         (P : ℕ → Bool) (p q : ℕ) → formAt counts steps p ≡ stands Pausing →
-        ahead P q + one (P p) ≤ countBelow P (sizeOf steps)
+        ahead P q + one (P p) ≤ countBelow P (stepsIn steps)
     unfolding ahead
     ahead-over P p q h =
-        count-drops (λ z. P z && isAhead q z) P (of-set P q) (sizeOf steps) p (standing-below counts steps (sizeOf steps) p h)
+        count-drops (λ z. P z && isAhead q z) P (of-set P q) (stepsIn steps) p (standing-below counts steps (stepsIn steps) p h)
         (rw (h, and-false)) (P p) (λ there. there)

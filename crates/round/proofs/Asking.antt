@@ -15,8 +15,8 @@ use Rattle.round.specs.declared.Position.{Position}
 use Rattle.round.specs.declared.Effect.{Effect}
 use Rattle.round.specs.declared.Effect.the-variants.{Nothing, Put}
 use Rattle.round.specs.declared.Act.the-variants.{Goes, Halts}
-use Rattle.round.specs.State.{State, Thing, signal, end, Happening, missing, past, numberAt, isThere}
-use Rattle.round.specs.Ticks.{Tick, telling, fresh, begunAt, countAt, tries, waitsFor, tickOf, tickAt}
+use Rattle.round.specs.State.{State, Thing, signal, end, Event, missing, past, numberAt, isThere}
+use Rattle.round.specs.Ticks.{Tick, tickWith, fresh, begunAt, countAt, tries, waitsFor, tickOf, tickAt}
 use Rattle.round.specs.claims.Demand.{AsksFor, wait, waitFor, join, joinFor, read}
 use Rattle.round.proofs.Acts.{Asks}
 
@@ -49,23 +49,23 @@ module _ (r : ℕ) (steps : List ℕ) (x : Position) (s : State) where
 
   pub asked-there :
       {st : Step} {t : Thing} → Asks x st t → isThere s t ≡ true →
-      (e : Effect) × (tickAt r steps x s st ≡ telling (Goes (x .place + 1) e) (past r (x .place) t ∷ []))
+      (e : Effect) × (tickAt r steps x s st ≡ tickWith (Goes (x .place + 1) e) (past r (x .place) t ∷ []))
   asked-there a h = let (e, y, tried) = asks-tries a in (e, rw h at tried)
 
   pub asked-missing :
       {st : Step} {t : Thing} → Asks x st t → isThere s t ≡ false →
       (y : Position) ×
-      (tickAt r steps x s st ≡ telling (if s .eoi then Halts Missed y else Halts Continued x) (missing r (x .place) t ∷ []))
+      (tickAt r steps x s st ≡ tickWith (if s .eoi then Halts Missed y else Halts Continued x) (missing r (x .place) t ∷ []))
   asked-missing a h = let (e, y, tried) = asks-tries a in (y, rw h at tried)
 
   -- so where the turn goes on, the thing was found
   pub asked-goes :
-      {st : Step} {t : Thing} {q : ℕ} {e : Effect} {told : List Happening} → Asks x st t →
-      tickAt r steps x s st ≡ telling (Goes q e) told → told ≡ past r (x .place) t ∷ []
-  asked-goes {t = t} {q} {e} {told} a on =
+      {st : Step} {t : Thing} {q : ℕ} {e : Effect} {events : List Event} → Asks x st t →
+      tickAt r steps x s st ≡ tickWith (Goes q e) events → events ≡ past r (x .place) t ∷ []
+  asked-goes {t = t} {q} {e} {events} a on =
       let (f, y, tried) = asks-tries a in
-      by-test (λ (k : Tick). k ≡ telling (Goes q e) told → told ≡ past r (x .place) t ∷ []) (isThere s t)
-      (λ h same. sym (ap (λ (k : Tick). k .told) same))
+      by-test (λ (k : Tick). k ≡ tickWith (Goes q e) events → events ≡ past r (x .place) t ∷ []) (isThere s t)
+      (λ h same. sym (ap (λ (k : Tick). k .events) same))
       (λ h same. absurd (halts (s .eoi) y (ap (λ (k : Tick). k .act) same)))
       (sym tried ∙ on)
     where

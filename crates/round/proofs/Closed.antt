@@ -16,7 +16,7 @@ use Rattle.round.specs.Rounds.{listedIn}
 use Rattle.round.specs.claims.Again.{Begins, Closes}
 use Rattle.round.specs.claims.Sound.{Sound}
 use Rattle.round.proofs.StartSound.{listed-below, at-start-sound}
-use Rattle.round.proofs.TurnSound.{again-sound}
+use Rattle.round.proofs.TurnSound.{next-pass-sound}
 use Rattle.round.proofs.Waiting.{pass-stays}
 use Rattle.round.proofs.Closing.{closing-pass}
 use Rattle.round.proofs.Lawful.{turn-laws}
@@ -26,7 +26,7 @@ module _ (book : List ℕ) (a : Accepted book) (g : Game) (f : Fits book g) wher
   begins-sound Begins.first = at-start-sound book g a f
   begins-sound (Begins.next {s} b h) =
       let below = listed-below (at-start-sound book g a f) in
-      again-sound _ (pass-stays (turn-laws book a) (listedIn g) below s (begins-sound b))
+      next-pass-sound _ (pass-stays (turn-laws book a) (listedIn g) below s (begins-sound b))
 
   pub closes : {s : State} → Begins book g s → s .eoi ≡ true → Closes book g s
   unfolding atStart

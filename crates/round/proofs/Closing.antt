@@ -10,52 +10,52 @@ use native.Mathlib.Omega.{arith}
 use Rattle.numbers.specs.Counting.{All, howMany, Among}
 use Rattle.numbers.proofs.Tests.{clash, both-true, not-true-false, by-flag}
 use Rattle.round.specs.State.{State, Thing, signal, end, number, isThere, isEndThere}
-use Rattle.round.specs.Rounds.{Played, allDone, again, turn, pass}
-use Rattle.round.proofs.Histories.{moves-append}
+use Rattle.round.specs.Rounds.{PlayedTurns, allDone, forNextPass, turn, pass}
+use Rattle.round.proofs.Traces.{moves-append}
 use Rattle.round.proofs.TurnLaws.{isGoing, moves, Waits, TurnLaws}
 use Rattle.round.proofs.Waiting.{done-append, pass-stays, unmoved-pass, turn-done, was-going}
 use Rattle.round.proofs.Waiting.{Stuck, stuck-own, stuck-other, stuck-pass}
 
 -- the flags for another pass change nothing else: who waits, and what is there
-pub there-again : (s : State) (t : Thing) → isThere (again s) t ≡ isThere s t
+pub there-next-pass : (s : State) (t : Thing) → isThere (forNextPass s) t ≡ isThere s t
 unfolding isThere isEndThere
-there-again s (signal e) = refl
-there-again s (end r) = refl
-there-again s (number e k) = refl
+there-next-pass s (signal e) = refl
+there-next-pass s (end r) = refl
+there-next-pass s (number e k) = refl
 
-pub waits-again : {book : List ℕ} {s : State} {r p : ℕ} {t : Thing} → Waits book s r p t → Waits book (again s) r p t
-waits-again w = record { place = w .place; asks = w .asks }
+pub waits-next-pass : {book : List ℕ} {s : State} {r p : ℕ} {t : Thing} → Waits book s r p t → Waits book (forNextPass s) r p t
+waits-next-pass w = record { place = w .place; asks = w .asks }
 
-stuck-again : (book : List ℕ) (s : State) (r : ℕ) → Stuck book s r → Stuck book (again s) r
+stuck-again : (book : List ℕ) (s : State) (r : ℕ) → Stuck book s r → Stuck book (forNextPass s) r
 stuck-again book s r h g =
     let w = h g in
     record {
       place = w .place;
       thing = w .thing;
-      waits = waits-again (w .waits);
-      missed = there-again s (w .thing) ∙ w .missed;
+      waits = waits-next-pass (w .waits);
+      missed = there-next-pass s (w .thing) ∙ w .missed;
     }
 
 module _ {book : List ℕ} {Listed : ℕ → Type 0} {Ok : State → Type 0} (laws : TurnLaws book Listed Ok) where
   -- who waits for what is not there moves nothing
-  quiet-turn : (r : ℕ) (s : State) → Listed r → Ok s → Stuck book s r → moves (turn book r s .told) ≡ 0
+  quiet-turn : (r : ℕ) (s : State) → Listed r → Ok s → Stuck book s r → moves (turn book r s .trace) ≡ 0
   unfolding howMany
   quiet-turn r s l k h =
       by-flag (isGoing s r)
       (λ g. let w = h g in ap moves (laws .missesAgain r (w .place) (w .thing) s l k g (w .waits) (w .missed)))
-      (λ g. ap (λ (p : Played). moves (p .told)) (laws .over r s l k g))
+      (λ g. ap (λ (p : PlayedTurns). moves (p .trace)) (laws .over r s l k g))
 
   quiet-pass :
       (l : List ℕ) → All Listed l → (s : State) → Ok s → ((q : ℕ) → Among q l → Stuck book s q) →
-      moves (pass book l s .told) ≡ 0
+      moves (pass book l s .trace) ≡ 0
   unfolding pass howMany
   quiet-pass [] a s k h = refl
   quiet-pass (r ∷ l) a s k h =
       let first = turn book r s in
       let rest = quiet-pass l (a .1) (first .state) (laws .stays r s (a .0) k) stuck in
-      omega (arith, quiet, moves-append (first .told) (pass book l (first .state) .told))
+      omega (arith, quiet, moves-append (first .trace) (pass book l (first .state) .trace))
     where
-      quiet : moves (turn book r s .told) ≡ 0
+      quiet : moves (turn book r s .trace) ≡ 0
       quiet = quiet-turn r s (a .0) k (h r (inl refl))
 
       stuck : (q : ℕ) → Among q l → Stuck book (turn book r s .state) q
@@ -89,11 +89,11 @@ module _ {book : List ℕ} {Listed : ℕ → Type 0} {Ok : State → Type 0} (la
 
     pub closing-pass :
         (s : State) → Ok s → pass book L s .state .moved ≡ false →
-        let u = again (pass book L s .state) in
-        (moves (pass book L u .told) ≡ 0) × (allDone (pass book L u .turns) ≡ true)
+        let u = forNextPass (pass book L s .state) in
+        (moves (pass book L u .trace) ≡ 0) × (allDone (pass book L u .turns) ≡ true)
     closing-pass s k w =
         let p = pass book L s .state in
-        let ok = laws .staysAgain p (pass-stays laws L listed s k) in (
-          quiet-pass L listed (again p) ok (λ q i. stuck-again book p q (all-stuck s k w q i)),
-          closed-pass L listed (again p) ok (ap not w),
+        let ok = laws .staysNextPass p (pass-stays laws L listed s k) in (
+          quiet-pass L listed (forNextPass p) ok (λ q i. stuck-again book p q (all-stuck s k w q i)),
+          closed-pass L listed (forNextPass p) ok (ap not w),
         )

@@ -11,7 +11,7 @@ use native.Mathlib.Omega.{arith}
 use Rattle.numbers.specs.Counting.{Among}
 use Rattle.kinds.specs.declared.Step.{Step}
 use Rattle.kinds.specs.declared.Counts.{Counts}
-use Rattle.kinds.specs.Steps.{stepAt}
+use Rattle.kinds.specs.Steps.{stepAt, stepsIn}
 use Rattle.forms.specs.Timed.{Timed, restFor, waitFor, joinFor}
 use Rattle.layout.specs.Layout.{routinesOf, countsOf}
 use Rattle.directory.specs.Directory.{routineSteps}
@@ -27,12 +27,11 @@ use Rattle.round.specs.declared.Effect.{Effect}
 use Rattle.round.specs.declared.Act.{Act}
 use Rattle.round.specs.declared.Act.the-variants.{Goes, Halts}
 use Rattle.round.specs.declared.Turn.the-variants.{Took}
-use Rattle.round.specs.State.{State, Thing, signal, end, Happening, isThere}
+use Rattle.round.specs.State.{State, Thing, signal, end, Event, isThere}
 use Rattle.round.specs.Actions.{positionOf, atStart}
-use Rattle.round.specs.Jumps.{sizeOf}
 use Rattle.round.specs.Ticks.{begunAt, countAt, tickAt, tick, fresh}
-use Rattle.round.specs.Rounds.{Ticks, follow, ticks, mostTicks, stageAfter, Played, taken, isDone, listedIn, back}
-use Rattle.round.specs.Rounds.{ticksOf, turn, historyOf}
+use Rattle.round.specs.Rounds.{Ticks, follow, ticks, mostTicks, stageAfter, PlayedTurns, taken, isDone, listedIn, stateAfter}
+use Rattle.round.specs.Rounds.{ticksOf, turn, traceOf}
 use Rattle.round.specs.claims.Demand.{AsksFor}
 use Rattle.round.specs.claims.Timed.{hasThing, isPausing, TimedRound, CountsDown}
 use Rattle.round.specs.claims.Sound.{Sound}
@@ -45,7 +44,7 @@ use Rattle.round.proofs.AfterTurn.{turn-over, turn-taken, routine-after
 use Rattle.round.proofs.Turned.{turn-turned}
 use Rattle.round.proofs.Again.{first-tick}
 use Rattle.round.proofs.FirstTurn.{Completes, standsFirst, Due, due-standing, round-of-one}
-use Rattle.round.proofs.FirstTurn.{due-first, due-last, told-then, thing-past}
+use Rattle.round.proofs.FirstTurn.{due-first, due-last, events-then, thing-past}
 
 -- a turn's first step halts it, or is completed
 module _ (counts : Counts) (r : ℕ) (steps : List ℕ) (n : ℕ) (x : Position) (s : State) where
@@ -53,7 +52,7 @@ module _ (counts : Counts) (r : ℕ) (steps : List ℕ) (n : ℕ) (x : Position)
   all = ticks (n + 1) counts r steps x s
 
   abbrev behind : Act → Ticks
-  behind act = follow r (x .place) act (tick counts r steps x s .told) s (λ p u. ticks n counts r steps (fresh p) u)
+  behind act = follow r (x .place) act (tick counts r steps x s .events) s (λ p u. ticks n counts r steps (fresh p) u)
 
   by-act : {act : Act} → tick counts r steps x s .act ≡ act → all ≡ behind act
   by-act e = first-tick counts r steps n x s refl ∙ ap behind e
@@ -62,8 +61,8 @@ module _ (counts : Counts) (r : ℕ) (steps : List ℕ) (n : ℕ) (x : Position)
       {how : Ending} {y : Position} → tick counts r steps x s .act ≡ Halts how y → (all .ending ≡ how) × (all .position ≡ y)
   first-halts e = (ap (λ (t : Ticks). t .ending) (by-act e), ap (λ (t : Ticks). t .position) (by-act e))
 
-  first-goes : {q : ℕ} {e : Effect} → tick counts r steps x s .act ≡ Goes q e → Completes r (x .place) (all .told)
-  first-goes e = subst (λ (t : Ticks). Completes r (x .place) (t .told)) (sym (by-act e)) (inl refl)
+  first-goes : {q : ℕ} {e : Effect} → tick counts r steps x s .act ≡ Goes q e → Completes r (x .place) (all .trace)
+  first-goes e = subst (λ (t : Ticks). Completes r (x .place) (t .trace)) (sym (by-act e)) (inl refl)
 
 -- a timed step whose thing is there asks for it, with some left
 asked :
@@ -103,10 +102,10 @@ module _
         from-here : ticksOf book r s ≡ ticks (mostTicks steps) (countsOf book) r steps x s
         from-here = ap (λ y. ticks (mostTicks steps) (countsOf book) r steps y s) (due .1)
 
-        goes-here : (k ≡ 0) ⊎ (hasThing s timed ≡ true) → Completes r (x .place) (turn book r s .told)
+        goes-here : (k ≡ 0) ⊎ (hasThing s timed ≡ true) → Completes r (x .place) (turn book r s .trace)
         goes-here h =
-            subst (λ (p : Played). Completes r (x .place) (p .told)) (sym (turn-taken book r s (due .0) ∙ ap (taken r) from-here))
-            (first-goes (countsOf book) r steps (sizeOf steps) x s (act-here ∙ timed-tick r steps x s timed .goesOn h))
+            subst (λ (p : PlayedTurns). Completes r (x .place) (p .trace)) (sym (turn-taken book r s (due .0) ∙ ap (taken r) from-here))
+            (first-goes (countsOf book) r steps (stepsIn steps) x s (act-here ∙ timed-tick r steps x s timed .goesOn h))
 
         halts-here :
             {how : Ending} {y : Position} → tickAt r steps x s st .act ≡ Halts how y →
@@ -115,7 +114,7 @@ module _
         halts-here act =
             let t = ticksOf book r s in
             let standing = turn-untouched book r s .standings r in
-            let (ending, position) = first-halts (countsOf book) r steps (sizeOf steps) x s (act-here ∙ act) in
+            let (ending, position) = first-halts (countsOf book) r steps (stepsIn steps) x s (act-here ∙ act) in
             let how = ap (λ (t : Ticks). t .ending) from-here ∙ ending in
             rw (turn-taken book r s (due .0)) (
               after-going r s t standing (due .0) ∙ ap (λ h. not (isDone (Took h))) how,
@@ -140,21 +139,21 @@ module _
             let (going, after, position) = halts-here s due (tried .stays some none unclosed) in
             inl (going, position))
 
-        abbrev Claim : State → List Happening → State → Type 0
-        Claim s told u =
+        abbrev Claim : State → List Event → State → Type 0
+        Claim s events u =
             hasThing u timed ≡ false → (hasThing s timed ≡ false) × (Due g r s ⊎ OneLess s → Due g r u ⊎ OneLess u)
 
-        own : (s : State) → r < routinesOf book → Sound book s → Claim s (turn book r s .told) (turn book r s .state)
+        own : (s : State) → r < routinesOf book → Sound book s → Claim s (turn book r s .trace) (turn book r s .state)
         own s below ok m =
             let none = was-missing s (turn book r s .state) (turn-turned book a r s below ok .keeps) timed m in (
               none,
               ⊎-elim (λ due. stays-here s due none)
                   (λ h.
                   let over = turn-over book r s (rw (h .0, or-true)) in
-                  inr (subst (λ (p : Played). OneLess (p .state)) (sym over) h)),
+                  inr (subst (λ (p : PlayedTurns). OneLess (p .state)) (sym over) h)),
             )
 
-        counted-down : hasThing (back book g) timed ≡ false → OneLess (back book g)
+        counted-down : hasThing (stateAfter book g) timed ≡ false → OneLess (stateAfter book g)
         counted-down none =
             let all =
             round-of-one book a g f r Claim
@@ -162,7 +161,7 @@ module _
             let (between, two) = second m in
             let (start, one) = first between in
             (start, λ h. two (one h)))
-            (λ s u told standing keeps m. (
+            (λ s u events standing keeps m. (
               was-missing s u keeps timed m,
               ⊎-elim (λ due. inl (due-standing g r s u standing due)) (λ h. inr (standing .stage ∙ h .0, standing .position ∙ h .1)),
             ))
@@ -170,14 +169,14 @@ module _
             ⊎-elim (λ due. absurd (due-last book a g f r inside unsuspended due)) (λ h. h)
             (all none .1 (inl (due-first book a g f r inside unsuspended)))
 
-      gone-past : (k ≡ 0) ⊎ (hasThing (back book g) timed ≡ true) → Completes r (x .place) (historyOf book g)
+      gone-past : (k ≡ 0) ⊎ (hasThing (stateAfter book g) timed ≡ true) → Completes r (x .place) (traceOf book g)
       gone-past h = elim (ℕ-discrete k 0) [
-        | yes zero ↦ told-then book a g f r inside unsuspended _ (λ s due. goes-here s due (inl zero))
+        | yes zero ↦ events-then book a g f r inside unsuspended _ (λ s due. goes-here s due (inl zero))
         | no some ↦
             elim h [
               | inl zero ↦ absurd (some zero)
               | inr found ↦
-                  let (t, asks, there) = asked x (back book g) timed (omega arith) found in
+                  let (t, asks, there) = asked x (stateAfter book g) timed (omega arith) found in
                   thing-past book a g f r inside unsuspended t (subst (λ w. Asks x w t) (sym here) asks) there
             ]
       ]

@@ -20,11 +20,11 @@ use Rattle.game.specs.declared.Game.{Game}
 use Rattle.game.specs.Game.{continuing, rested, ended, notStarted, stopped, routineAt}
 use Rattle.fitting.specs.Fits.{Fits, In}
 use Rattle.round.specs.Actions.{atStart}
-use Rattle.round.specs.Rounds.{mostPasses, listedIn, round, back}
+use Rattle.round.specs.Rounds.{mostPasses, listedIn, round, stateAfter}
 use Rattle.round.specs.Answers.{spaceFor, answer}
-use Rattle.round.specs.claims.Tells.{RoundTells}
+use Rattle.round.specs.claims.Reasons.{RoundReason}
 use Rattle.round.specs.claims.Demand.{Demand3}
-use Rattle.round.proofs.Telling.{round-told-only, answer-verdict, accepted-played}
+use Rattle.round.proofs.Reasons.{round-reason-only, answer-verdict, accepted-played}
 use Rattle.round.proofs.StartSound.{listed-below, at-start-sound, among-listed}
 use Rattle.round.proofs.Passes.{FairRound, fair-round}
 use Rattle.round.proofs.TurnLaws.{isGoing}
@@ -50,24 +50,24 @@ module _ (book : List ℕ) (a : Accepted book) (g : Game) (f : Fits book g) wher
       fair-round (turn-laws book a) (listedIn g) (listed-below start) mostPasses (atStart g) start refl refl (enough book a g f .passes)
 
   -- no listed routine is left to take a turn
-  pub none-going : (r : ℕ) → Among r (listedIn g) → isGoing (back book g) r ≡ false
+  pub none-going : (r : ℕ) → Among r (listedIn g) → isGoing (stateAfter book g) r ≡ false
   none-going = fair .noneGoing
 
   rested-or-ended :
       (r : ℕ) → Among r (listedIn g) → routineAt (atStart g .game) r .suspended ≡ false →
-      (routineAt (back book g .game) r .stage ≡ rested) ⊎ (routineAt (back book g .game) r .stage ≡ ended)
+      (routineAt (stateAfter book g .game) r .stage ≡ rested) ⊎ (routineAt (stateAfter book g .game) r .stage ≡ ended)
   rested-or-ended r i unsuspended =
       let (sound, kept) = round-keeps book a g f in
       let fits = sound .fits in
       let (k, l, e) = among-listed book g a f r i in
       let lower : r < routinesOf book = subst (λ q. q < routinesOf book) e (at-start-sound book g a f .fits .entriesInRange .0 k l) in
-      let here : In (back book g .game .listed) r = rw (kept .listed) (k, l, e) in
+      let here : In (stateAfter book g .game .listed) r = rw (kept .listed) (k, l, e) in
       let off = none-going r i in
-      rests-or-ends (routineAt (back book g .game) r .stage) (fits .stagesInRange r lower)
+      rests-or-ends (routineAt (stateAfter book g .game) r .stage) (fits .stagesInRange r lower)
       (λ on. clash refl (rw (kept .suspended r ∙ unsuspended, eq-eqb _ _ on) at off))
       (λ out. fits .unlistedStages r lower out here)
 
-  pub demand-3 : Demand3 book g (round book g .passes) (back book g .game)
+  pub demand-3 : Demand3 book g (round book g .passes) (stateAfter book g .game)
   demand-3 =
       record {
         fewPasses = omega (arith, fair .few);
@@ -79,7 +79,7 @@ module _ (book : List ℕ) (a : Accepted book) (g : Game) (f : Fits book g) wher
   -- "More than 1,024 numbers are given in one round." never applies: a buffer that is long enough is all that is left to ask
   pub round-accepted : (buffer : List ℤ) → spaceFor book ≤ length buffer → answer book g buffer .verdict ≡ accepted
   round-accepted buffer space =
-      answer-verdict book g buffer ∙ round-told-only (RoundTells.nothing a f space (completed-once book a g f .numbers))
+      answer-verdict book g buffer ∙ round-reason-only (RoundReason.nothing a f space (completed-once book a g f .numbers))
 
 -- the passes and the game of an accepted answer
 pub answer-demand-3 :

@@ -55,8 +55,8 @@ module _ (counts : Counts) (r : ℕ) (steps : List ℕ) where
           (act : Act) → IfItGoesOn act s (λ y u. InTime n counts r steps y u) →
           ((q : ℕ) (u : State) → InTime n counts r steps (fresh q) u →
           ticks k counts r steps (fresh q) u ≡ ticks n counts r steps (fresh q) u) →
-          follow r (x .place) act (tick counts r steps x s .told) s (λ q u. ticks k counts r steps (fresh q) u) ≡
-          follow r (x .place) act (tick counts r steps x s .told) s (λ q u. ticks n counts r steps (fresh q) u)
+          follow r (x .place) act (tick counts r steps x s .events) s (λ q u. ticks k counts r steps (fresh q) u) ≡
+          follow r (x .place) act (tick counts r steps x s .events) s (λ q u. ticks n counts r steps (fresh q) u)
       behind (Goes q e) h on = rw (on q (effectOn e s) h)
       behind (Halts how y) h on = refl
 
@@ -92,12 +92,12 @@ module _ (book : List ℕ) (a : Accepted book) where
 
   turn-gives :
       (r : ℕ) (s : State) → r < routinesOf book →
-      howMany givesSignal (turn book r s .told) + worth signals r (turn book r s .state) ≤ worth signals r s
+      howMany givesSignal (turn book r s .trace) + worth signals r (turn book r s .state) ≤ worth signals r s
   turn-gives r s l = omega (arith, turn-signals book r s, turn-pays book a (isSignalStep book) r s l)
 
   pass-spends :
       (L : List ℕ) → All (λ r. r < routinesOf book) L → (s : State) → Sound book s →
-      moves (pass book L s .told) + budget L (pass book L s .state) ≤ budget L s
+      moves (pass book L s .trace) + budget L (pass book L s .state) ≤ budget L s
   pass-spends L all s ok =
       let given = pass-pays book a givesSignal signals turn-gives L all s ok in
       let over = pass-pays book a endsRoutine mayEnd (λ r u l. ends-pay book r u) L all s ok in

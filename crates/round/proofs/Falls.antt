@@ -12,13 +12,14 @@ use native.Mathlib.Omega.{arith}
 use Rattle.numbers.specs.Choice.{if_then_else_}
 use Rattle.numbers.proofs.Tests.{clash, and-both}
 use Rattle.kinds.specs.declared.Counts.{Counts}
+use Rattle.kinds.specs.Steps.{stepsIn}
 use Rattle.forms.specs.declared.Form.{Form}
 use Rattle.forms.specs.declared.Form.the-variants.{Plain, Pausing}
 use Rattle.blocks.specs.Blocks.{View, stands, deepest}
 use Rattle.blocks.specs.Parse.{ParsedBlock, empty, more, ParsedStep, plain, pausing, ifOnly, ifElse, loop}
 use Rattle.blocks.specs.Parse.{blockPauses, stepPauses, EachWhileOf, WhilesPause}
 use Rattle.blocks.proofs.Views.{view-beyond, standing-below}
-use Rattle.round.specs.Jumps.{sizeOf, pastPartner}
+use Rattle.round.specs.Jumps.{pastPartner}
 use Rattle.round.proofs.Jumps.{past-partner, from-if, from-else, from-while}
 use Rattle.round.proofs.Leads.{isHalt, nextBy, formAt, Leads}
 
@@ -33,22 +34,22 @@ module _ (counts : Counts) (steps : List ℕ) where
 
   -- every way from a place comes to a halt, and stays inside
   data Ends : ℕ → Type 0 where
-    halts : {p : ℕ} → p ≤ sizeOf steps → isHalt (at p) ≡ true → Ends p
-    goes : {p : ℕ} → p ≤ sizeOf steps → isHalt (at p) ≡ false → ((t : Bool) → Ends (nextBy steps (at p) p t)) → Ends p
+    halts : {p : ℕ} → p ≤ stepsIn steps → isHalt (at p) ≡ true → Ends p
+    goes : {p : ℕ} → p ≤ stepsIn steps → isHalt (at p) ≡ false → ((t : Bool) → Ends (nextBy steps (at p) p t)) → Ends p
 
-  inside : {p : ℕ} → Ends p → p ≤ sizeOf steps
+  inside : {p : ℕ} → Ends p → p ≤ stepsIn steps
   inside (halts l h) = l
   inside (goes l n on) = l
 
   -- by the form that stands there
   by-form : {p : ℕ} {f : Form} → at p ≡ stands f → isHalt (stands f) ≡ false → ((t : Bool) → Ends (nextBy steps (stands f) p t)) → Ends p
-  by-form {p} h n on = goes {p = p} (omega (arith, standing-below counts steps (sizeOf steps) p h)) (rw h n) (λ t. rw h (on t))
+  by-form {p} h n on = goes {p = p} (omega (arith, standing-below counts steps (stepsIn steps) p h)) (rw h n) (λ t. rw h (on t))
 
   at-plain : {p : ℕ} → at p ≡ stands Plain → Ends (suc p) → Ends p
   at-plain h w = by-form h refl (λ t. rw add-one w)
 
   at-pausing : {p : ℕ} → at p ≡ stands Pausing → Ends p
-  at-pausing {p} h = halts {p = p} (omega (arith, standing-below counts steps (sizeOf steps) p h)) (rw h)
+  at-pausing {p} h = halts {p = p} (omega (arith, standing-below counts steps (stepsIn steps) p h)) (rw h)
 
   -- behind an opening, by its test
   by-either : {p q : ℕ} → pastPartner steps p ≡ q → Ends (suc p) → Ends q → (t : Bool) → Ends (if t then p + 1 else pastPartner steps p)
@@ -144,34 +145,34 @@ module _ (counts : Counts) (steps : List ℕ) where
   next-ends (goes l h on) n t = on t
 
   -- a turn goes on only where a step stands
-  pub going-below : (p : ℕ) → isHalt (at p) ≡ false → p < sizeOf steps
+  pub going-below : (p : ℕ) → isHalt (at p) ≡ false → p < stepsIn steps
   going-below p n =
-      elim (decLt p (sizeOf steps)) [
+      elim (decLt p (stepsIn steps)) [
         | yes l ↦ l
-        | no m ↦ clash (ap isHalt (view-beyond counts steps (sizeOf steps) p (omega arith))) n
+        | no m ↦ clash (ap isHalt (view-beyond counts steps (stepsIn steps) p (omega arith))) n
       ]
 
-  module _ (b : ParsedBlock (formAt counts steps) deepest 0 (sizeOf steps)) (w : WhilesPause (formAt counts steps) b) where
-    ends : (p : ℕ) → p ≤ sizeOf steps → Ends p
+  module _ (b : ParsedBlock (formAt counts steps) deepest 0 (stepsIn steps)) (w : WhilesPause (formAt counts steps) b) where
+    ends : (p : ℕ) → p ≤ stepsIn steps → Ends p
     ends p l =
-        let out = view-beyond counts steps (sizeOf steps) (sizeOf steps) (omega arith) in
-        in-block b w (halts {p = sizeOf steps} (omega arith) (rw out)) p (omega arith) l
+        let out = view-beyond counts steps (stepsIn steps) (stepsIn steps) (omega arith) in
+        in-block b w (halts {p = stepsIn steps} (omega arith) (rw out)) p (omega arith) l
 
     -- the height, and 0 for a place beyond the end
-    abbrev rankBy : (p : ℕ) → Dec (p ≤ sizeOf steps) → ℕ
+    abbrev rankBy : (p : ℕ) → Dec (p ≤ stepsIn steps) → ℕ
     rankBy p (yes l) = height (ends p l)
     rankBy p (no n) = 0
 
     pub rank : ℕ → ℕ
-    rank p = rankBy p (decLe p (sizeOf steps))
+    rank p = rankBy p (decLe p (stepsIn steps))
 
-    rank-by : {p : ℕ} (a : Ends p) (d : Dec (p ≤ sizeOf steps)) → rankBy p d ≡ height a
+    rank-by : {p : ℕ} (a : Ends p) (d : Dec (p ≤ stepsIn steps)) → rankBy p d ≡ height a
     rank-by {p} a (yes l) = height-same (ends p l) a
     rank-by a (no n) = absurd (n (inside a))
 
     rank-height : {p : ℕ} (a : Ends p) → rank p ≡ height a
     unfolding rank
-    rank-height {p} a = rank-by a (decLe p (sizeOf steps))
+    rank-height {p} a = rank-by a (decLe p (stepsIn steps))
 
     -- all ways from a place that goes on
     from-going : (p : ℕ) → isHalt (at p) ≡ false → Ends p
@@ -184,5 +185,5 @@ module _ (counts : Counts) (steps : List ℕ) where
         subst (λ (x : ℕ). rank x < rank p) (sym (e .to))
         (omega (arith, rank-height here, rank-height there, height-falls here (e .test) there (e .goesOn)))
 
-    pub leads-inside : (p q : ℕ) → Leads counts steps p q → q ≤ sizeOf steps
+    pub leads-inside : (p q : ℕ) → Leads counts steps p q → q ≤ stepsIn steps
     leads-inside p q e = rw (e .to) (inside (next-ends (from-going p (e .goesOn)) (e .goesOn) (e .test)))

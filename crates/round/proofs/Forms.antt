@@ -16,12 +16,11 @@ use Rattle.kinds.specs.declared.Step.the-variants as step
 use Rattle.kinds.specs.declared.Counts.{Counts}
 use Rattle.forms.specs.declared.Form.{Form}
 use Rattle.forms.specs.declared.Form.the-variants.{Plain, Pausing, IfOpening, ElseMarker, WhileOpening, EndMarker}
-use Rattle.kinds.specs.Steps.{opAt, fieldA, fieldB, fieldN, stepAt}
+use Rattle.kinds.specs.Steps.{opAt, fieldA, fieldB, fieldN, stepAt, stepsIn}
 use Rattle.forms.specs.Forms.{formOf}
 use Rattle.blocks.specs.Blocks.{View, stands}
 use Rattle.kinds.proofs.Rows.{_and_, Kinds, kind-holds}
 use Rattle.partners.proofs.Scan.{kind-there}
-use Rattle.round.specs.Jumps.{sizeOf}
 use Rattle.round.proofs.Leads.{formAt}
 
 -- what a step of a form is
@@ -98,7 +97,7 @@ module _ (counts : Counts) (steps : List ℕ) where
   at = formAt counts steps
 
   pub form-there : (p : ℕ) {f : Form} → at p ≡ stands f → Formed f (stepAt counts steps p)
-  form-there p h = let (k, e, g) = kind-there counts steps (sizeOf steps) p h in rw e (rw g at (formed k))
+  form-there p h = let (k, e, g) = kind-there counts steps (stepsIn steps) p h in rw e (rw g at (formed k))
 
   -- a step that holds no block and is no marker
   pub leaf-there :

@@ -19,13 +19,13 @@ use Rattle.kinds.specs.declared.Kind.{Kind}
 use Rattle.kinds.specs.declared.Counts.{Counts}
 use Rattle.forms.specs.declared.Form.{Form}
 use Rattle.forms.specs.declared.Form.the-variants.{Plain, Pausing, IfOpening, ElseMarker, WhileOpening, EndMarker}
-use Rattle.kinds.specs.Steps.{opAt, fieldA, fieldB, fieldN}
+use Rattle.kinds.specs.Steps.{opAt, fieldA, fieldB, fieldN, stepsIn}
 use Rattle.forms.specs.Forms.{formOf}
 use Rattle.blocks.specs.Blocks.{View, stands}
 use Rattle.blocks.specs.Parse.{ParsedBlock, empty, more, ParsedStep, plain, pausing, ifOnly, ifElse, loop}
 use Rattle.kinds.proofs.Rows.{_and_, Kinds, kind-holds}
 use Rattle.partners.proofs.Scan.{kind-there, finds-partner}
-use Rattle.round.specs.Jumps.{sizeOf, pastPartner, openingBy, openingBefore, fromEnd}
+use Rattle.round.specs.Jumps.{pastPartner, openingBy, openingBefore, fromEnd}
 use Rattle.round.proofs.Leads.{formAt}
 
 -- openingBy's look at place p, by the form of the step there instead of its op
@@ -76,7 +76,7 @@ module _ (counts : Counts) (steps : List ℕ) where
   place-look : (d p : ℕ) {f : Form} → at p ≡ stands f → SameLook (λ e. openingBefore steps e p) d p (opAt steps p) f
   place-look d p h =
       let on : ℕ → ℕ = λ e. openingBefore steps e p in
-      let (k, e, g) = kind-there counts steps (sizeOf steps) p h in
+      let (k, e, g) = kind-there counts steps (stepsIn steps) p h in
       let kinds = table-looks on d p (fieldA steps p) (fieldB steps p) (fieldN steps p) in
       subst (SameLook on d p (opAt steps p)) g (kind-holds (KindLook on d p) counts steps p kinds e)
 
@@ -110,7 +110,7 @@ module _ (counts : Counts) (steps : List ℕ) where
   pub past-partner :
       {d p q : ℕ} → ParsedBlock at d (suc p) q → (at q ≡ stands ElseMarker) ⊎ (at q ≡ stands EndMarker) → pastPartner steps p ≡ suc q
   unfolding pastPartner
-  past-partner b k = rw (finds-partner counts steps (sizeOf steps) b k, add-one)
+  past-partner b k = rw (finds-partner counts steps (stepsIn steps) b k, add-one)
 
   pub from-if : {d p q : ℕ} → at p ≡ stands IfOpening → ParsedBlock at d (suc p) q → fromEnd steps q ≡ suc q
   from-if {p = p} {q = q} h b = from-opening p q h (over-block b 0 ∙ back 0 p h)

@@ -9,6 +9,7 @@ use Rattle.numbers.specs.Choice.{if_then_else_}
 use Rattle.numbers.specs.Counting.{countBelow}
 use Rattle.numbers.proofs.Tests.{by-test}
 use Rattle.kinds.specs.declared.Counts.{Counts}
+use Rattle.kinds.specs.Steps.{stepsIn}
 use Rattle.blocks.specs.Blocks.{deepest}
 use Rattle.blocks.specs.Parse.{ParsedBlock, WhilesPause}
 use Rattle.layout.specs.Layout.{routinesOf, countsOf}
@@ -17,8 +18,7 @@ use Rattle.book.specs.Accepted.{Accepted}
 use Rattle.round.specs.declared.Position.{Position}
 use Rattle.round.specs.declared.Act.{Act}
 use Rattle.round.specs.declared.Act.the-variants.{Goes, Halts}
-use Rattle.round.specs.State.{State, Happening}
-use Rattle.round.specs.Jumps.{sizeOf}
+use Rattle.round.specs.State.{State, Event}
 use Rattle.round.specs.Ticks.{tick, fresh, effectOn}
 use Rattle.round.specs.Rounds.{mostTicks}
 use Rattle.round.specs.claims.Enough.{IfItGoesOn, InTime}
@@ -30,18 +30,18 @@ use Rattle.round.proofs.Parsed.{size-same, parse-of, parse-pauses}
 use Rattle.round.proofs.Ahead.{ahead, ahead-all, ahead-falls, ahead-over}
 
 module _ (counts : Counts) (steps : List ℕ) where
-  module _ (b : ParsedBlock (formAt counts steps) deepest 0 (sizeOf steps)) (w : WhilesPause (formAt counts steps) b) where
+  module _ (b : ParsedBlock (formAt counts steps) deepest 0 (stepsIn steps)) (w : WhilesPause (formAt counts steps) b) where
     abbrev aheadOf : (ℕ → Bool) → ℕ → ℕ
     aheadOf = ahead counts steps b w
 
     -- where a timed step that is a halt is begun, the turn may go past it and come anywhere
     unfoldable leftAt : (ℕ → Bool) → Position → ℕ
-    leftAt P x = if x .begun && isHalt (formAt counts steps (x .place)) then countBelow P (sizeOf steps) else aheadOf P (x .place)
+    leftAt P x = if x .begun && isHalt (formAt counts steps (x .place)) then countBelow P (stepsIn steps) else aheadOf P (x .place)
 
-    left-all : (P : ℕ → Bool) (x : Position) → leftAt P x ≤ countBelow P (sizeOf steps)
+    left-all : (P : ℕ → Bool) (x : Position) → leftAt P x ≤ countBelow P (stepsIn steps)
     unfolding leftAt
     left-all P x =
-        by-test (λ (n : ℕ). n ≤ countBelow P (sizeOf steps)) (x .begun && isHalt (formAt counts steps (x .place)))
+        by-test (λ (n : ℕ). n ≤ countBelow P (stepsIn steps)) (x .begun && isHalt (formAt counts steps (x .place)))
         (λ t. omega arith) (λ t. ahead-all counts steps b w P (x .place))
 
     left-falls :
@@ -63,17 +63,17 @@ module _ (counts : Counts) (steps : List ℕ) where
       lasts zero x s l = absurd (omega arith)
       lasts (suc n) x s l =
           let t = tick counts r steps x s in
-          behind (t .act) (t .told) (sorted counts r steps x s) (λ q u. lasts n (fresh q) u)
+          behind (t .act) (t .events) (sorted counts r steps x s) (λ q u. lasts n (fresh q) u)
         where
           behind :
-              (act : Act) (told : List Happening) → Sorted counts r steps x s act told →
+              (act : Act) (events : List Event) → Sorted counts r steps x s act events →
               ((q : ℕ) (u : State) → places (fresh q) < n → InTime n counts r steps (fresh q) u) →
               IfItGoesOn act s (λ y u. InTime n counts r steps y u)
-          behind (Goes q e) told goes on = on q (effectOn e s) (omega (arith, left-falls (λ p. true) x q (goes .0)))
-          behind (Halts how y) told goes on = tt
+          behind (Goes q e) events goes on = on q (effectOn e s) (omega (arith, left-falls (λ p. true) x q (goes .0)))
+          behind (Halts how y) events goes on = tt
 
       in-time : (x : Position) (s : State) → InTime (mostTicks steps) counts r steps x s
-      in-time x s = lasts (mostTicks steps) x s (omega (arith, left-all (λ p. true) x, count-all (λ p. true) (sizeOf steps)))
+      in-time x s = lasts (mostTicks steps) x s (omega (arith, left-all (λ p. true) x, count-all (λ p. true) (stepsIn steps)))
 
 -- the routines of an accepted book
 module _ (book : List ℕ) (a : Accepted book) where

@@ -6,7 +6,7 @@ use Rattle.layout.specs.Layout.{routinesOf}
 use Rattle.book.specs.Accepted.{Accepted}
 use Rattle.round.specs.claims.Sound.{Sound}
 use Rattle.round.proofs.TurnLaws.{TurnLaws}
-use Rattle.round.proofs.TurnSound.{turn-sound, again-sound}
+use Rattle.round.proofs.TurnSound.{turn-sound, next-pass-sound}
 use Rattle.round.proofs.Turned.{turn-turned}
 use Rattle.round.proofs.AfterTurn.{turn-over}
 use Rattle.round.proofs.Outcomes.{turn-out, turn-continues, turn-calm}
@@ -16,7 +16,7 @@ pub turn-laws : (book : List ℕ) → Accepted book → TurnLaws book (λ r. r <
 turn-laws book a =
     record {
       stays = turn-sound book a;
-      staysAgain = again-sound;
+      staysNextPass = next-pass-sound;
       turned = turn-turned book a;
       over = λ r s l ok. turn-over book r s;
       out = λ r s l ok. turn-out book a r s l;

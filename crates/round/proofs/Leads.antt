@@ -6,10 +6,11 @@ use mathlib.Core.Bool.{Bool, true, false}
 use mathlib.Core.List.{List}
 use Rattle.numbers.specs.Choice.{if_then_else_}
 use Rattle.kinds.specs.declared.Counts.{Counts}
+use Rattle.kinds.specs.Steps.{stepsIn}
 use Rattle.forms.specs.declared.Form.the-variants.{Plain, Pausing, IfOpening, ElseMarker, WhileOpening, EndMarker}
 use Rattle.blocks.specs.Blocks.{View, beyond, unreadable, stands, viewAt}
 use Rattle.round.specs.declared.Position.{Position}
-use Rattle.round.specs.Jumps.{sizeOf, pastPartner, fromEnd}
+use Rattle.round.specs.Jumps.{pastPartner, fromEnd}
 
 -- no turn goes on from here in the round that comes here
 abbrev pub isHalt : View → Bool
@@ -35,7 +36,7 @@ nextBy steps (stands EndMarker) p t = fromEnd steps p
 
 module _ (counts : Counts) (steps : List ℕ) where
   abbrev pub formAt : ℕ → View
-  formAt = viewAt counts steps (sizeOf steps)
+  formAt = viewAt counts steps (stepsIn steps)
 
   -- from p a turn may go to q
   pub record Leads (p q : ℕ) : Type 0 where

@@ -1,5 +1,5 @@
--- Where a step that halts the turn leaves its routine: in the way out of a turn that specs/Whole.antt has for it, or, if the turn is to be
--- continued, where it stands. By the kinds, each by its tick; where no step stands, it is behind the last.
+-- Where a step that halts the turn leaves its routine: in the way out of a turn that specs/claims/Trace.antt has for it, or, if the turn is
+-- to be continued, where it stands. By the kinds, each by its tick; where no step stands, it is behind the last.
 use Prim.Native.Nat.{ℕ, _+_, _-_, _<_, _≤_}
 use mathlib.Core.Path.{_≡_, refl, sym, ap, _∙_, subst}
 use mathlib.Core.Bool.{false, _&&_, not, and-true}
@@ -13,6 +13,7 @@ use Rattle.kinds.specs.declared.Kind.{Kind}
 use Rattle.kinds.specs.declared.Kind.the-variants as kind
 use Rattle.kinds.specs.declared.Step.{Step}
 use Rattle.kinds.specs.declared.Step.the-variants as step
+use Rattle.kinds.specs.Steps.{stepsIn}
 use Rattle.kinds.proofs.Readable.{kind-not-refused}
 use Rattle.layout.specs.Layout.{routinesOf, countsOf}
 use Rattle.directory.specs.Directory.{stepCount, routineSteps, routineStep}
@@ -27,11 +28,10 @@ use Rattle.round.specs.declared.Effect.{Effect}
 use Rattle.round.specs.declared.Effect.the-variants.{Nothing, Put}
 use Rattle.round.specs.declared.Act.{Act}
 use Rattle.round.specs.declared.Act.the-variants.{Goes, Halts}
-use Rattle.round.specs.State.{State, Thing, signal, end, number, Happening, missing, numberAt, isThere}
+use Rattle.round.specs.State.{State, Thing, signal, end, number, Event, missing, numberAt, isThere}
 use Rattle.round.specs.Actions.{positionOf}
-use Rattle.round.specs.Jumps.{sizeOf}
-use Rattle.round.specs.Ticks.{Tick, telling, fresh, begunAt, countAt, tries, waitsFor, tickOf, tickAt, tick}
-use Rattle.round.specs.claims.Whole.{Lacks, LeftAt}
+use Rattle.round.specs.Ticks.{Tick, tickWith, fresh, begunAt, countAt, tries, waitsFor, tickOf, tickAt, tick}
+use Rattle.round.specs.claims.Trace.{WasMissing, LeftAt}
 use Rattle.round.proofs.Among.{in-second}
 use Rattle.round.proofs.Parsed.{size-same}
 use Rattle.round.proofs.Tries.{some-left}
@@ -40,7 +40,7 @@ use Rattle.round.proofs.Tries.{some-left}
 module _ (book : List ℕ) (r : ℕ) where
   -- a routine is left as another in the same stage and at the same position is, and when more is told
   pub left-as :
-      {x : Position} {b c : List Happening} {y z : Routine} → ((t : Thing) → Lacks book r x b t → Lacks book r x c t) →
+      {x : Position} {b c : List Event} {y z : Routine} → ((t : Thing) → WasMissing book r x b t → WasMissing book r x c t) →
       z .stage ≡ y .stage → positionOf z ≡ positionOf y → LeftAt book r x b y → LeftAt book r x c z
   left-as more s p (LeftAt.rests o (d, q)) = LeftAt.rests o (s ∙ d, p ∙ q)
   left-as more s p (LeftAt.unread {e} {k = k} o m (d, q)) = LeftAt.unread o (more (number e k) m) (s ∙ d, p ∙ q)
@@ -52,22 +52,22 @@ module _ (book : List ℕ) (r : ℕ) where
   left-as more s p (LeftAt.ends l d q) = LeftAt.ends l (s ∙ d) (p ∙ q)
 
   -- a turn that told this and has come to x leaves its routine in this stage at y, in one of the ways out of a turn
-  abbrev Out : List Happening → Position → ℕ → Position → Type 0
-  Out told x stage y = (v : Routine) → v .stage ≡ stage → positionOf v ≡ y → LeftAt book r x told v
+  abbrev Out : List Event → Position → ℕ → Position → Type 0
+  Out events x stage y = (v : Routine) → v .stage ≡ stage → positionOf v ≡ y → LeftAt book r x events v
 
   -- a turn that ends so is out, or to be continued where it has come to
-  abbrev pub Halted : List Happening → Position → Ending → Position → Type 0
-  Halted told x Ended y = Out told x stage.ended y
-  Halted told x Rested y = Out told x stage.rested y
-  Halted told x Missed y = Out told x stage.rested y
-  Halted told x Continued y = y ≡ x
+  abbrev pub Halted : List Event → Position → Ending → Position → Type 0
+  Halted events x Ended y = Out events x stage.ended y
+  Halted events x Rested y = Out events x stage.rested y
+  Halted events x Missed y = Out events x stage.rested y
+  Halted events x Continued y = y ≡ x
 
-  -- having told more before
-  out-later : (b c : List Happening) {x : Position} {stage : ℕ} {y : Position} → Out c x stage y → Out (b ++ c) x stage y
+  -- with more events before
+  out-later : (b c : List Event) {x : Position} {stage : ℕ} {y : Position} → Out c x stage y → Out (b ++ c) x stage y
   out-later b c {x} h v d p = left-as (λ t. in-second (λ k. k ≡ missing r (x .place) t) b c) refl refl (h v d p)
 
   pub halted-later :
-      (b c : List Happening) (x : Position) (how : Ending) (y : Position) → Halted c x how y → Halted (b ++ c) x how y
+      (b c : List Event) (x : Position) (how : Ending) (y : Position) → Halted c x how y → Halted (b ++ c) x how y
   halted-later b c x Ended y h = out-later b c h
   halted-later b c x Rested y h = out-later b c h
   halted-later b c x Missed y h = out-later b c h
@@ -79,12 +79,12 @@ module _ (book : List ℕ) (r : ℕ) where
     steps = routineSteps book r
 
     -- what a step that halts the turn comes to; of one that goes on nothing is claimed
-    abbrev Halting : Act → List Happening → Type 0
-    Halting (Goes q e) told = Unit {0}
-    Halting (Halts how y) told = Halted told x how y
+    abbrev Halting : Act → List Event → Type 0
+    Halting (Goes q e) events = Unit {0}
+    Halting (Halts how y) events = Halted events x how y
 
     abbrev HaltingTick : Tick → Type 0
-    HaltingTick t = Halting (t .act) (t .told)
+    HaltingTick t = Halting (t .act) (t .events)
 
     -- a try that finds its thing missing leaves its routine at y
     abbrev MayMiss : Thing → Position → Type 0
@@ -131,7 +131,7 @@ module _ (book : List ℕ) (r : ℕ) where
     kind-halts kind.End o = tt
 
     -- in an accepted book, at one of its steps or behind the last
-    module _ (a : Accepted book) (below : r < routinesOf book) (inside : x .place ≤ sizeOf (routineSteps book r)) where
+    module _ (a : Accepted book) (below : r < routinesOf book) (inside : x .place ≤ stepsIn (routineSteps book r)) where
       behind-last : routineStep book r (x .place) ≡ step.Refused → x .place ≡ stepCount book r
       behind-last none =
           elim (decLt (x .place) (stepCount book r)) [
@@ -146,7 +146,7 @@ module _ (book : List ℕ) (r : ℕ) where
       step-halts step.Refused none = λ v d q. LeftAt.ends (behind-last none) d (q ∙ ap fresh (size-same book a r below))
 
       pub halted :
-          {how : Ending} {y : Position} {told : List Happening} → tick (countsOf book) r steps x s ≡ telling (Halts how y) told →
-          Halted told x how y
+          {how : Ending} {y : Position} {events : List Event} → tick (countsOf book) r steps x s ≡ tickWith (Halts how y) events →
+          Halted events x how y
       unfolding tick
       halted same = subst HaltingTick same (step-halts (routineStep book r (x .place)) refl)

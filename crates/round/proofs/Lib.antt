@@ -16,9 +16,9 @@ pub mod Parsed
 pub mod Counting
 pub mod Ahead
 pub mod Lasting
--- what is told, what is claimed of turns, and how a claim goes along steps, turns and passes
+-- traces, what is claimed of turns, and how a claim goes along steps, turns and passes
 pub mod TurnLaws
-pub mod Histories
+pub mod Traces
 pub mod Along
 pub mod Stepping
 pub mod Shaping
@@ -43,7 +43,7 @@ pub mod Waiting
 pub mod Closing
 pub mod CatchingUp
 pub mod Passes
--- what is counted: steps completed, and what is told
+-- what is counted: steps completed, and events
 pub mod Sums
 pub mod BookSteps
 pub mod Paying
@@ -56,19 +56,19 @@ pub mod Enough
 pub mod OneStep
 pub mod Once
 pub mod After
-pub mod Telling
+pub mod Reasons
 pub mod Closed
 pub mod Demand
 pub mod Ends
 pub mod Misses
 pub mod Asked
 pub mod TrueInOrder
-pub mod TrueHistory
+pub mod TrueTrace
 pub mod Replays
 pub mod FirstTurn
-pub mod Untold
+pub mod NoEvents
 pub mod Leaving
 pub mod Places
 pub mod Ways
-pub mod Whole
+pub mod Trace
 pub mod CountsDown

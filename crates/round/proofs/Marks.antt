@@ -1,4 +1,4 @@
--- The marks that are told, one thing after the other. The count of an accepted book's mark steps is that of its steps of kind mark: a
+-- The marks of some events, one behind the other. The count of an accepted book's mark steps is that of its steps of kind mark: a
 -- step's op is its kind's, so the test of the op passes at the marks alone.
 use Prim.Native.Nat.{ℕ}
 use mathlib.Core.Path.{_≡_, refl, sym, _∙_, ap}
@@ -20,14 +20,14 @@ use Rattle.layout.specs.Layout.{stepsOf, countsOf}
 use Rattle.book.specs.Book.{stepsPart}
 use Rattle.book.specs.Accepted.{Accepted}
 use Rattle.book.proofs.Routines.{step-kind}
-use Rattle.round.specs.State.{Happening, gave, ended, missing, past, marked, completed}
+use Rattle.round.specs.State.{Event, gave, ended, missing, past, marked, completed}
 use Rattle.round.specs.Answers.{markSteps, marksIn}
-use Rattle.round.specs.claims.Tells.{MarkAt}
+use Rattle.round.specs.claims.Reasons.{MarkAt}
 use Rattle.round.proofs.Counting.{counted}
 use Rattle.round.proofs.Forms.{step-op}
 
--- marks in what happened, one thing after the other
-pub marks-append : (a b : List Happening) → marksIn (a ++ b) ≡ marksIn a ++ marksIn b
+-- marks of some events, one behind the other
+pub marks-append : (a b : List Event) → marksIn (a ++ b) ≡ marksIn a ++ marksIn b
 unfolding marksIn
 marks-append [] b = refl
 marks-append (gave e k ∷ a) b = marks-append a b

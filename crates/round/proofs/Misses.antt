@@ -1,5 +1,5 @@
--- A round's history tells a miss for each turn that ended because its thing was missing, and no other. The steps of a turn that went on
--- tell none, and the last one tells one exactly where it halts the turn for that reason; then turn by turn and pass by pass.
+-- A round's trace has a miss for each turn that ended because its thing was missing, and no other. The steps of a turn that went on
+-- have none, and the last one has one exactly where it halts the turn for that reason; then turn by turn and pass by pass.
 use Prim.Native.Nat.{ℕ, _<_}
 use mathlib.Core.Path.{_≡_, refl, ap, _∙_}
 use mathlib.Core.List.{List, [], _∷_}
@@ -13,28 +13,28 @@ use Rattle.fitting.specs.Fits.{Fits}
 use Rattle.round.specs.declared.Ending.{Ending}
 use Rattle.round.specs.declared.Position.{Position}
 use Rattle.round.specs.declared.Turn.the-variants.{Took}
-use Rattle.round.specs.State.{State, Happening}
+use Rattle.round.specs.State.{State, Event}
 use Rattle.round.specs.Actions.{atStart}
-use Rattle.round.specs.Rounds.{Played, followedBy, mostPasses, listedIn, turn, round, historyOf}
-use Rattle.round.specs.claims.Whole.{isMiss, lacksThing}
+use Rattle.round.specs.Rounds.{PlayedTurns, followedBy, mostPasses, listedIn, turn, round, traceOf}
+use Rattle.round.specs.claims.Trace.{isMiss, foundMissing}
 use Rattle.round.proofs.Acts.{Stops, ends, rests, misses, continues}
 use Rattle.round.proofs.Along.{instant-by}
 use Rattle.round.proofs.StartSound.{listed-below, at-start-sound}
-use Rattle.round.proofs.Histories.{many-append}
+use Rattle.round.proofs.Traces.{many-append}
 use Rattle.round.proofs.AfterTurn.{turn-by}
 use Rattle.round.proofs.Outcomes.{turn-shape}
 
--- some turns and what they told
-abbrev TellsMisses : Played → Type 0
-TellsMisses p = howMany isMiss (p .told) ≡ howMany lacksThing (p .turns)
+-- some turns and their trace
+abbrev MissesAgree : PlayedTurns → Type 0
+MissesAgree p = howMany isMiss (p .trace) ≡ howMany foundMissing (p .turns)
 
-misses-both : (a b : Played) → TellsMisses a → TellsMisses b → TellsMisses (followedBy a b)
-misses-both a b h k = omega (arith, many-append isMiss (a .told) (b .told), many-append lacksThing (a .turns) (b .turns))
+misses-both : (a b : PlayedTurns) → MissesAgree a → MissesAgree b → MissesAgree (followedBy a b)
+misses-both a b h k = omega (arith, many-append isMiss (a .trace) (b .trace), many-append foundMissing (a .turns) (b .turns))
 
--- what the last step of a turn tells
+-- the events of the last step of a turn
 stops-miss :
-    {counts : Counts} {r : ℕ} {steps : List ℕ} {x : Position} {s : State} {how : Ending} {y : Position} {told : List Happening} →
-    Stops counts r steps x s how y told → howMany isMiss told ≡ howMany lacksThing (Took how ∷ [])
+    {counts : Counts} {r : ℕ} {steps : List ℕ} {x : Position} {s : State} {how : Ending} {y : Position} {events : List Event} →
+    Stops counts r steps x s how y events → howMany isMiss events ≡ howMany foundMissing (Took how ∷ [])
 unfolding howMany
 stops-miss ends = refl
 stops-miss rests = refl
@@ -42,16 +42,16 @@ stops-miss (misses a m c) = refl
 stops-miss (continues a m c) = refl
 
 module _ (book : List ℕ) (a : Accepted book) where
-  turn-misses : (r : ℕ) (s : State) → r < routinesOf book → TellsMisses (turn book r s)
+  turn-misses : (r : ℕ) (s : State) → r < routinesOf book → MissesAgree (turn book r s)
   unfolding howMany
   turn-misses r s l =
       let shape = turn-shape book a r s l in
-      let told = ap (howMany isMiss) (shape .history) ∙ many-append isMiss (shape .before) (shape .lastTold) in
-      turn-by book r s TellsMisses (λ h. refl) (λ h. omega (arith, shape .noMiss, stops-miss (shape .stops)))
+      let events = ap (howMany isMiss) (shape .trace) ∙ many-append isMiss (shape .before) (shape .lastEvents) in
+      turn-by book r s MissesAgree (λ h. refl) (λ h. omega (arith, shape .noMiss, stops-miss (shape .stops)))
 
-  pub misses-told :
-      (g : Game) → Fits book g → howMany isMiss (historyOf book g) ≡ howMany lacksThing (round book g .played .turns)
+  pub misses-agree :
+      (g : Game) → Fits book g → howMany isMiss (traceOf book g) ≡ howMany foundMissing (round book g .played .turns)
   unfolding round howMany
-  misses-told g f =
-      instant-by (λ s p. TellsMisses p) (λ s. refl) (λ s. misses-both) book (λ r. r < routinesOf book) turn-misses (λ s p h. h) mostPasses
+  misses-agree g f =
+      instant-by (λ s p. MissesAgree p) (λ s. refl) (λ s. misses-both) book (λ r. r < routinesOf book) turn-misses (λ s p h. h) mostPasses
       (listedIn g) (listed-below (at-start-sound book g a f)) (atStart g)

@@ -1,6 +1,6 @@
 -- No step is completed twice in one round by one routine: a listed routine pays for each step of a set that it completes with one of those
--- that it has left, and at the round's start it has no more left than it has. Signals, numbers and marks are told by steps of their own; so
--- a round gives at most as many numbers as the book has steps.
+-- that it has left, and at the round's start it has no more left than it has. Signals, numbers and marks are given by steps of their own;
+-- so a round gives at most as many numbers as the book has steps.
 use Prim.Native.Nat.{ℕ, _≤_}
 use mathlib.Core.Bool.{Bool}
 use mathlib.Core.List.{List}
@@ -14,13 +14,13 @@ use Rattle.book.specs.Accepted.{Accepted}
 use Rattle.game.specs.declared.Game.{Game}
 use Rattle.fitting.specs.Fits.{Fits}
 use Rattle.round.specs.Actions.{atStart}
-use Rattle.round.specs.Rounds.{listedIn, round, historyOf}
+use Rattle.round.specs.Rounds.{listedIn, round, traceOf}
 use Rattle.round.specs.Answers.{marksIn}
-use Rattle.round.specs.claims.Tells.{numbersGiven}
+use Rattle.round.specs.claims.Reasons.{numbersGiven}
 use Rattle.round.specs.claims.Demand.{isSignalStep, givesSignal, countSteps}
 use Rattle.round.specs.claims.Completed.{completes, theStep, isMarkStep, isAddition, CompletedOnce}
 use Rattle.round.proofs.StartSound.{listed-distinct, listed-below, at-start-sound}
-use Rattle.round.proofs.Given.{numbers-as-told}
+use Rattle.round.proofs.Given.{numbers-in-trace}
 use Rattle.round.proofs.Paying.{leftOf, turn-pays}
 use Rattle.round.proofs.PayingPasses.{round-pays}
 use Rattle.round.proofs.Accounts.{numbers-few, signals-completed, marks-completed}
@@ -29,27 +29,27 @@ use Rattle.round.proofs.OneStep.{one-of-distinct}
 use Rattle.round.proofs.Enough.{total-left}
 
 module _ (book : List ℕ) (a : Accepted book) (g : Game) (f : Fits book g) where
-  each-once : (set : ℕ → ℕ → Bool) → howMany (completes set) (historyOf book g) ≤ countSteps book set (listedIn g)
+  each-once : (set : ℕ → ℕ → Bool) → howMany (completes set) (traceOf book g) ≤ countSteps book set (listedIn g)
   each-once set =
       let below = listed-below (at-start-sound book g a f) in
       let paid = round-pays book a (completes set) (leftOf book a set) (turn-pays book a set) g f in
       omega (arith, total-left book a set (listedIn g) below (atStart g))
 
-  signals-once : howMany givesSignal (historyOf book g) ≤ countSteps book (isSignalStep book) (listedIn g)
+  signals-once : howMany givesSignal (traceOf book g) ≤ countSteps book (isSignalStep book) (listedIn g)
   signals-once = omega (arith, signals-completed book g, each-once (isSignalStep book))
 
-  marks-once : length (marksIn (historyOf book g)) ≤ countSteps book (isMarkStep book) (listedIn g)
+  marks-once : length (marksIn (traceOf book g)) ≤ countSteps book (isMarkStep book) (listedIn g)
   marks-once = omega (arith, marks-completed book g, each-once (isMarkStep book))
 
-  numbers-in-book : numbersGiven (historyOf book g) ≤ stepsOf book
+  numbers-in-book : numbersGiven (traceOf book g) ≤ stepsOf book
   numbers-in-book =
       let below = listed-below (at-start-sound book g a f) in
       let signals = all-in-book book a (isSignalStep book) (listedIn g) (listed-distinct book g a f) below in
-      omega (arith, numbers-few (historyOf book g), signals-once)
+      omega (arith, numbers-few (traceOf book g), signals-once)
 
   -- the numbers behind a round are at most as many as the book has steps
   pub numbers-kept : length (round book g .played .state .numbers) ≤ stepsOf book
-  numbers-kept = omega (arith, numbers-as-told book g, numbers-in-book)
+  numbers-kept = omega (arith, numbers-in-trace book g, numbers-in-book)
 
   pub completed-once : CompletedOnce book g
   completed-once =

@@ -15,8 +15,8 @@ use Rattle.round.specs.declared.Turn.the-variants.{Took}
 use Rattle.round.specs.State.{State}
 use Rattle.round.specs.Actions.{positionOf}
 use Rattle.round.specs.Rounds.{Ticks, mostTicks, afterTurn, isDone, ticksOf, turn}
-use Rattle.round.specs.claims.Whole.{isMiss}
-use Rattle.round.proofs.Histories.{none-of-both}
+use Rattle.round.specs.claims.Trace.{isMiss}
+use Rattle.round.proofs.Traces.{none-of-both}
 use Rattle.round.proofs.Effects.{Untouched}
 use Rattle.round.proofs.TurnLaws.{isGoing, waits-at, ToBeContinued}
 use Rattle.round.proofs.Shaping.{Shape, stops-continued, stops-calm, shaped}
@@ -53,11 +53,11 @@ module _ (book : List ℕ) (a : Accepted book) where
 
     pub turn-continues :
         isGoing (turn book r s .state) r ≡ true →
-        (s .eoi ≡ false) × ToBeContinued book r (turn book r s .state) (turn book r s .told)
+        (s .eoi ≡ false) × ToBeContinued book r (turn book r s .state) (turn book r s .trace)
     turn-continues =
         rw (turn-taken book r s going) (λ h.
         let stop = stops-continued (countsOf book) r steps (shape .stops) (not-true _ (sym out ∙ h)) in
-        let (thing, asks, missed, unclosed, how, position, told) = stop in
+        let (thing, asks, missed, unclosed, how, position, events) = stop in
         let there = position-after r s all (untouched .standings r) going ∙ position in (
           sym (untouched .eoi) ∙ unclosed,
           record {
@@ -69,13 +69,13 @@ module _ (book : List ℕ) (a : Accepted book) where
                   missed = after-missing r s all (untouched .standings r) going how thing missed;
                 };
             before = shape .before;
-            history = shape .history ∙ ap (λ l. shape .before ++ l) told;
+            trace = shape .trace ∙ ap (λ l. shape .before ++ l) events;
             calm = shape .noMiss;
           },
         ))
 
-    pub turn-calm : isGoing (turn book r s .state) r ≡ false → s .eoi ≡ false → howMany isMiss (turn book r s .told) ≡ 0
+    pub turn-calm : isGoing (turn book r s .state) r ≡ false → s .eoi ≡ false → howMany isMiss (turn book r s .trace) ≡ 0
     turn-calm =
         rw (turn-taken book r s going) (λ h e.
         let last = stops-calm (countsOf book) r steps (shape .stops) (not-false _ (sym out ∙ h)) (untouched .eoi ∙ e) in
-        ap (howMany isMiss) (shape .history) ∙ none-of-both isMiss (shape .before) (shape .lastTold) (shape .noMiss) last)
+        ap (howMany isMiss) (shape .trace) ∙ none-of-both isMiss (shape .before) (shape .lastEvents) (shape .noMiss) last)

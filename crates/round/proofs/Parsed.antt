@@ -3,26 +3,26 @@
 use Prim.Native.Nat.{ℕ, _<_}
 use mathlib.Core.Path.{_≡_, refl}
 use mathlib.Core.List.{List}
+use Rattle.kinds.specs.Steps.{stepsIn}
 use Rattle.blocks.specs.Blocks.{deepest}
 use Rattle.blocks.specs.Parse.{ParsedBlock, WhilesPause}
 use Rattle.layout.specs.Layout.{routinesOf, countsOf}
 use Rattle.directory.specs.Directory.{stepCount, routineSteps}
 use Rattle.book.specs.Accepted.{Accepted}
 use Rattle.book.proofs.Routines.{PausingParse, routine-steps, pausing-parse}
-use Rattle.round.specs.Jumps.{sizeOf}
 use Rattle.round.proofs.Leads.{formAt}
 
 module _ (book : List ℕ) (a : Accepted book) (r : ℕ) (h : r < routinesOf book) where
   abbrev steps : List ℕ
   steps = routineSteps book r
 
-  pub size-same : sizeOf (routineSteps book r) ≡ stepCount book r
+  pub size-same : stepsIn (routineSteps book r) ≡ stepCount book r
   size-same = routine-steps book a r h
 
-  parsed : PausingParse (formAt (countsOf book) steps) (sizeOf steps)
+  parsed : PausingParse (formAt (countsOf book) steps) (stepsIn steps)
   parsed = pausing-parse book a r h refl size-same
 
-  pub parse-of : ParsedBlock (formAt (countsOf book) (routineSteps book r)) deepest 0 (sizeOf (routineSteps book r))
+  pub parse-of : ParsedBlock (formAt (countsOf book) (routineSteps book r)) deepest 0 (stepsIn (routineSteps book r))
   parse-of = parsed .0
 
   pub parse-pauses : WhilesPause (formAt (countsOf book) (routineSteps book r)) parse-of

@@ -1,4 +1,4 @@
--- Each step does what its fields say when what is told is carried out again: by the rows of the table of kinds, it changes the counters and
+-- Each step does what its fields say when the trace is carried out again: by the rows of the table of kinds, it changes the counters and
 -- numbers so and leads on so, or it halts the turn and changes neither. Hence the counters and numbers at a round's end are what the steps
 -- told as completed make of the counters before it.
 use Prim.Native.Nat.{ℕ}
@@ -22,11 +22,11 @@ use Rattle.round.specs.declared.Effect.{Effect}
 use Rattle.round.specs.declared.Effect.the-variants.{Nothing, Put}
 use Rattle.round.specs.declared.Act.{Act}
 use Rattle.round.specs.declared.Act.the-variants.{Goes, Halts}
-use Rattle.round.specs.State.{State, Thing, signal, end, number, Happening, missing, past, completed}
+use Rattle.round.specs.State.{State, Thing, signal, end, number, Event, missing, past, completed}
 use Rattle.round.specs.State.{numberAt, isThere}
 use Rattle.round.specs.Actions.{atStart}
 use Rattle.round.specs.Ticks.{Tick, countAt, onward, tries, waitsFor, tickOf, tickAt, tick, effectOn}
-use Rattle.round.specs.Rounds.{ticks, ticksOf, turn, round, historyOf}
+use Rattle.round.specs.Rounds.{ticks, ticksOf, turn, round, traceOf}
 use Rattle.round.specs.claims.Replay.{Contents, madeBy, leadsTo, atStep, madeOf, contentsAfter}
 use Rattle.round.proofs.Stepping.{ticks-by}
 use Rattle.round.proofs.Along.{round-always}
@@ -37,20 +37,20 @@ abbrev pub contentsOf : State → Contents
 contentsOf s = (s .game .counters, s .numbers)
 
 module _ (book : List ℕ) where
-  after-append : (a b : List Happening) (c : Contents) → contentsAfter book (a ++ b) c ≡ contentsAfter book b (contentsAfter book a c)
+  after-append : (a b : List Event) (c : Contents) → contentsAfter book (a ++ b) c ≡ contentsAfter book b (contentsAfter book a c)
   unfolding contentsAfter
   after-append [] b c = refl
   after-append (h ∷ a) b c = after-append a b (madeOf book h c)
 
-  -- what is told between two states makes the second's contents of the first's
-  abbrev pub Makes : State → List Happening → State → Type 0
-  Makes s told u = contentsOf u ≡ contentsAfter book told (contentsOf s)
+  -- the events between two states make the second's contents of the first's
+  abbrev pub Makes : State → List Event → State → Type 0
+  Makes s events u = contentsOf u ≡ contentsAfter book events (contentsOf s)
 
   pub makes-same : (s : State) → Makes s [] s
   unfolding contentsAfter
   makes-same s = refl
 
-  pub makes-both : (s u v : State) (a b : List Happening) → Makes s a u → Makes u b v → Makes s (a ++ b) v
+  pub makes-both : (s u v : State) (a b : List Event) → Makes s a u → Makes u b v → Makes s (a ++ b) v
   makes-both s u v a b first then = then ∙ ap (contentsAfter book b) first ∙ sym (after-append a b (contentsOf s))
 
   -- routine r stands at position x
@@ -61,14 +61,14 @@ module _ (book : List ℕ) where
     -- a step with these fields
     module _ (op a b : ℕ) (n : ℤ) where
       -- one that goes on changes the contents, and leads on, as its fields say; one that halts the turn changes nothing
-      abbrev Agrees : Act → List Happening → Type 0
-      Agrees (Goes q e) told =
+      abbrev Agrees : Act → List Event → Type 0
+      Agrees (Goes q e) events =
           (q ≡ leadsTo steps (x .place) op a b n (s .game .counters)) ×
-          (contentsOf (effectOn e s) ≡ contentsAfter book told (madeBy op a b n (contentsOf s)))
-      Agrees (Halts how y) told = Makes s told s
+          (contentsOf (effectOn e s) ≡ contentsAfter book events (madeBy op a b n (contentsOf s)))
+      Agrees (Halts how y) events = Makes s events s
 
       abbrev TickAgrees : Tick → Type 0
-      TickAgrees t = Agrees (t .act) (t .told)
+      TickAgrees t = Agrees (t .act) (t .events)
 
       tries-agrees :
           (t : Thing) (e : Effect) (y : Position) → Agrees (onward r steps x s e) (past r (x .place) t ∷ []) →
@@ -129,21 +129,21 @@ module _ (book : List ℕ) where
   ticks-make :
       (r n : ℕ) (x : Position) (s : State) →
       let t = ticks n (countsOf book) r (routineSteps book r) x s in
-      Makes s (t .told) (t .state)
+      Makes s (t .trace) (t .state)
   unfolding contentsAfter
   ticks-make r =
-      ticks-by (countsOf book) r (routineSteps book r) (λ x s t. Makes s (t .told) (t .state))
-      (λ x s q e told t same leaves right says rest.
-      makes-both s (effectOn e s) (t .state) (completed r (x .place) ∷ told) (t .told) (tick-agrees r x s same .1) rest)
-      (λ x s how y told same stays stops. tick-agrees r x s same) (λ x s. makes-same s)
+      ticks-by (countsOf book) r (routineSteps book r) (λ x s t. Makes s (t .trace) (t .state))
+      (λ x s q e events t same leaves right says rest.
+      makes-both s (effectOn e s) (t .state) (completed r (x .place) ∷ events) (t .trace) (tick-agrees r x s same .1) rest)
+      (λ x s how y events same stays stops. tick-agrees r x s same) (λ x s. makes-same s)
 
-  pub turn-makes : (r : ℕ) (s : State) → Makes s (turn book r s .told) (turn book r s .state)
+  pub turn-makes : (r : ℕ) (s : State) → Makes s (turn book r s .trace) (turn book r s .state)
   turn-makes r s =
       let t = ticksOf book r s in
-      turn-by book r s (λ p. Makes s (p .told) (p .state)) (λ h. makes-same s)
-      (λ h. end-keeps (Makes s (t .told)) (t .ending) r _ (λ k. k) (ticks-make r _ _ s))
+      turn-by book r s (λ p. Makes s (p .trace) (p .state)) (λ h. makes-same s)
+      (λ h. end-keeps (Makes s (t .trace)) (t .ending) r _ (λ k. k) (ticks-make r _ _ s))
 
   pub contents-made :
-      (g : Game) → contentsOf (round book g .played .state) ≡ contentsAfter book (historyOf book g) (g .counters, [])
+      (g : Game) → contentsOf (round book g .played .state) ≡ contentsAfter book (traceOf book g) (g .counters, [])
   unfolding atStart
   contents-made = round-always Makes makes-same makes-both book turn-makes makes-same

@@ -1,4 +1,4 @@
--- The 21 kinds sorted: at any position of any bytes, a step goes on along an edge, with a right effect and what it tells of it, or it halts
+-- The 21 kinds sorted: at any position of any bytes, a step goes on along an edge, with a right effect and its events, or it halts
 -- the turn at a position where fitting lets a routine stand. By the kind of the step, its form, its op and its fields.
 use Prim.Native.Nat.{ℕ, zero, suc, _+_, _-_}
 use mathlib.Core.Path.{_≡_, refl, ap, _∙_}
@@ -22,7 +22,7 @@ use Rattle.kinds.specs.declared.Step.{Step}
 use Rattle.kinds.specs.declared.Step.the-variants as step
 use Rattle.kinds.specs.declared.Counts.{Counts}
 use Rattle.forms.specs.declared.Form.the-variants.{Plain, IfOpening, ElseMarker, WhileOpening, EndMarker}
-use Rattle.kinds.specs.Steps.{opAt, stepAt}
+use Rattle.kinds.specs.Steps.{opAt, stepAt, stepsIn}
 use Rattle.forms.specs.Forms.{formOf}
 use Rattle.forms.specs.Timed as timed
 use Rattle.kinds.proofs.Readable.{step-below}
@@ -32,7 +32,6 @@ use Rattle.game.specs.Game.{counterAt}
 use Rattle.round.specs.declared.Position.{Position}
 use Rattle.round.specs.declared.Effect.the-variants.{Put}
 use Rattle.round.specs.State.{State, signal, end, number, numbersWith, numberAt}
-use Rattle.round.specs.Jumps.{sizeOf}
 use Rattle.round.specs.Ticks.{fresh, countAt, tickOf, tickAt, tick}
 use Rattle.round.specs.claims.Demand.{wait, waitFor, join, joinFor, read}
 use Rattle.round.specs.claims.Sound.{NumbersRight}
@@ -71,7 +70,7 @@ module _ (counts : Counts) (r : ℕ) (steps : List ℕ) (x : Position) (s : Stat
   There k = stepAt counts steps (x .place) ≡ step.Kind k
 
   form-there : {k : Kind} → There k → formAt counts steps (x .place) ≡ stands (formOf k)
-  form-there e = view-seen counts steps (sizeOf steps) (x .place) (step-below counts steps (x .place) e) ∙ ap seen e
+  form-there e = view-seen counts steps (stepsIn steps) (x .place) (step-below counts steps (x .place) e) ∙ ap seen e
 
   -- the op of a step is its kind's, so the kind says whether it is a signal or a mark step
   op-there : {k : Kind} → There k → opAt steps (x .place) ≡ opOf k
@@ -139,7 +138,7 @@ module _ (counts : Counts) (r : ℕ) (steps : List ℕ) (x : Position) (s : Stat
 
   step-sorted : (st : Step) → stepAt counts steps (x .place) ≡ st → SortedTick counts r steps x s (tickAt r steps x s st)
   step-sorted (step.Kind k) e = kind-sorted k e (fields-right counts steps (x .place) k e)
-  step-sorted step.Refused e = (λ h. fresh-stands counts steps (sizeOf steps) (omega arith), ends)
+  step-sorted step.Refused e = (λ h. fresh-stands counts steps (stepsIn steps) (omega arith), ends)
 
 pub sorted :
     (counts : Counts) (r : ℕ) (steps : List ℕ) (x : Position) (s : State) → SortedTick counts r steps x s (tick counts r steps x s)

@@ -19,8 +19,8 @@ use Rattle.round.specs.declared.Position.{Position}
 use Rattle.round.specs.declared.Effect.the-variants.{Nothing}
 use Rattle.round.specs.declared.Act.{Act}
 use Rattle.round.specs.declared.Act.the-variants.{Goes, Halts}
-use Rattle.round.specs.State.{State, Thing, signal, end, Happening, missing, past, isThere}
-use Rattle.round.specs.Ticks.{telling, begunAt, countAt, waitsFor, tickOf, tickAt}
+use Rattle.round.specs.State.{State, Thing, signal, end, Event, missing, past, isThere}
+use Rattle.round.specs.Ticks.{tickWith, begunAt, countAt, waitsFor, tickOf, tickAt}
 use Rattle.round.specs.Rounds.{stageAfter}
 use Rattle.round.specs.claims.Timed.{hasThing, isPausing, TimedTick}
 
@@ -31,12 +31,12 @@ module _ (x : Position) (k : ℕ) where
       if isPast then Goes (x .place + 1) Nothing else if pausing then Halts how (begunAt (x .place) (k - 1)) else Halts Continued x
 
   -- rules 25 to 29 have that shape
-  waiting : (there none closing : Bool) (found lacking : List Happening) →
+  waiting : (there none closing : Bool) (found lacking : List Event) →
       (if none && not there
-      then telling (Goes (x .place + 1) Nothing) []
+      then tickWith (Goes (x .place + 1) Nothing) []
       else if there
-      then telling (Goes (x .place + 1) Nothing) found
-      else telling (if closing then Halts Missed (begunAt (x .place) (k - 1)) else Halts Continued x) lacking) .act
+      then tickWith (Goes (x .place + 1) Nothing) found
+      else tickWith (if closing then Halts Missed (begunAt (x .place) (k - 1)) else Halts Continued x) lacking) .act
       ≡ shape (there || none) closing Missed
   waiting true true closing found lacking = refl
   waiting true false closing found lacking = refl

@@ -11,25 +11,24 @@ use borrow.Author.Tests.{eqb-false}
 use lib.Dec.{eqb}
 use Rattle.numbers.proofs.Tests.{clash, by-test}
 use Rattle.kinds.specs.declared.Counts.{Counts}
-use Rattle.kinds.specs.Steps.{opAt, stepAt}
+use Rattle.kinds.specs.Steps.{opAt, stepAt, stepsIn}
 use Rattle.forms.specs.Timed.{Timed}
 use Rattle.forms.proofs.Timed.{timed-count}
 use Rattle.round.specs.declared.Position.{Position}
 use Rattle.round.specs.declared.Effect.{Effect}
 use Rattle.round.specs.declared.Effect.the-variants.{Nothing}
 use Rattle.round.specs.State.{State, Thing, missing, isThere}
-use Rattle.round.specs.Jumps.{sizeOf}
-use Rattle.round.specs.Ticks.{fresh, begunAt, countAt, tries, lacks, waits, waitsFor}
+use Rattle.round.specs.Ticks.{fresh, begunAt, countAt, tries, whenMissing, waits, waitsFor}
 use Rattle.round.specs.claims.Demand.{AsksFor}
 use Rattle.round.proofs.Leads.{Leaves}
 use Rattle.round.proofs.Acts.{Right, nothing, isGiving, Asks, Stands, silent}
-use Rattle.round.proofs.Acts.{finds, misses, continues, Sorted, SortedTick, isTelling}
+use Rattle.round.proofs.Acts.{finds, misses, continues, Sorted, SortedTick, isSignalOrMark}
 
 pub some-left : (k : ℕ) → eqb k 0 ≡ false → 0 < k
 some-left k h = elim (decLt 0 k) [ yes l ↦ l | no l ↦ absurd (eqb-false k 0 h (omega arith)) ]
 
 module _ (counts : Counts) (steps : List ℕ) where
-  pub fresh-stands : (p : ℕ) → p ≤ sizeOf steps → Stands counts steps (fresh p)
+  pub fresh-stands : (p : ℕ) → p ≤ stepsIn steps → Stands counts steps (fresh p)
   fresh-stands p h = record { inside = h; whereBegun = λ b. clash b refl; elsewhere = λ b. refl }
 
   -- a timed step with n, at position x
@@ -55,21 +54,21 @@ module _ (counts : Counts) (r : ℕ) (steps : List ℕ) (x : Position) (s : Stat
   abbrev MayMiss : Thing → Position → Type 0
   MayMiss t y = Asks x (stepAt counts steps (x .place)) t × (Stands counts steps x → Stands counts steps y)
 
-  lacks-sorted :
+  when-missing-sorted :
       (t : Thing) (y : Position) → MayMiss t y → isThere s t ≡ false →
-      Sorted counts r steps x s (lacks r steps x s y) (missing r (x .place) t ∷ [])
-  lacks-sorted t y (asks, stays) none =
+      Sorted counts r steps x s (whenMissing r steps x s y) (missing r (x .place) t ∷ [])
+  when-missing-sorted t y (asks, stays) none =
       by-test (λ a. Sorted counts r steps x s a (missing r (x .place) t ∷ [])) (s .eoi) (λ h. (stays, misses asks none h))
       (λ h. (λ i. i, continues asks none h))
 
   -- the turn may go on behind the step, which is no signal or mark step
-  module _ (on : Leaves counts steps x (x .place + 1)) (other : isTelling (opAt steps (x .place)) ≡ false) where
+  module _ (on : Leaves counts steps x (x .place + 1)) (other : isSignalOrMark (opAt steps (x .place)) ≡ false) where
     pub tries-sorted :
         (t : Thing) (e : Effect) (y : Position) → AsksFor (stepAt counts steps (x .place)) t → Right counts s e → isGiving e ≡ false →
         (isThere s t ≡ false → MayMiss t y) → SortedTick counts r steps x s (tries r steps x s t e y)
     tries-sorted t e y asks right quiet may =
         by-test (SortedTick counts r steps x s) (isThere s t) (λ h. (on, right, finds quiet other asks h))
-        (λ h. lacks-sorted t y (may h) h)
+        (λ h. when-missing-sorted t y (may h) h)
 
     pub waits-sorted : (t : Thing) → Asks x (stepAt counts steps (x .place)) t → SortedTick counts r steps x s (waits r steps x s t)
     waits-sorted t asks =

@@ -19,11 +19,11 @@ use Rattle.round.specs.declared.Ending.{Ending}
 use Rattle.round.specs.declared.Ending.the-variants.{Continued}
 use Rattle.round.specs.declared.Position.{Position}
 use Rattle.round.specs.declared.Turn.the-variants.{Took}
-use Rattle.round.specs.State.{State, Thing, Happening, missing, isThere}
+use Rattle.round.specs.State.{State, Thing, Event, missing, isThere}
 use Rattle.round.specs.Actions.{positionOf}
-use Rattle.round.specs.Rounds.{notTaken, isDone, again, turn}
+use Rattle.round.specs.Rounds.{notTaken, isDone, forNextPass, turn}
 use Rattle.round.specs.claims.Demand.{givesSignal, endsRoutine, Comes, IsPast}
-use Rattle.round.specs.claims.Whole.{isMiss}
+use Rattle.round.specs.claims.Trace.{isMiss}
 use Rattle.round.proofs.Acts.{Asks}
 use Rattle.round.proofs.Standings.{SameStanding, StillThere}
 
@@ -35,8 +35,8 @@ abbrev pub isGoing : State → ℕ → Bool
 isGoing s r = takesTurn (routineAt (s .game) r)
 
 -- what sets the flag: signals given by steps, and routines ended
-abbrev pub moves : List Happening → ℕ
-moves told = howMany givesSignal told + howMany endsRoutine told
+abbrev pub moves : List Event → ℕ
+moves events = howMany givesSignal events + howMany endsRoutine events
 
 -- a game in which routine r alone may stand elsewhere, and none is suspended or resumed, or joins the playing order or leaves it
 pub record OthersStand (r : ℕ) (g h : Game) : Type 0 where
@@ -44,27 +44,27 @@ pub record OthersStand (r : ℕ) (g h : Game) : Type 0 where
   pub suspended : (q : ℕ) → routineAt h q .suspended ≡ routineAt g q .suspended
   pub others : (q : ℕ) → q ≢ r → SameStanding (routineAt h q) (routineAt g q)
 
--- the flags from one state to another, with this told between them
-pub record Passed (s : State) (told : List Happening) (u : State) : Type 0 where
+-- the flags from one state to another, with these events between them
+pub record Passed (s : State) (events : List Event) (u : State) : Type 0 where
   pub eoi : u .eoi ≡ s .eoi
-  pub unmoved : moves told ≡ 0 → u .moved ≡ s .moved
-  pub moved : 0 < moves told → u .moved ≡ true
+  pub unmoved : moves events ≡ 0 → u .moved ≡ s .moved
+  pub moved : 0 < moves events → u .moved ≡ true
 
 pub passed-same : (s : State) → Passed s [] s
 unfolding howMany
 passed-same s = record { eoi = refl; unmoved = λ m. refl; moved = λ m. absurd (omega arith) }
 
--- what a turn of routine r in state s does, which told this and leaves state v
-pub record Turned (r : ℕ) (s : State) (told : List Happening) (v : State) : Type 0 where
+-- what a turn of routine r in state s does, which has these events and leaves state v
+pub record Turned (r : ℕ) (s : State) (events : List Event) (v : State) : Type 0 where
   pub standings : OthersStand r (s .game) (v .game)
-  pub flags : Passed s told v
+  pub flags : Passed s events v
   pub keeps : StillThere s v
-  pub brings : (t : Thing) → Somewhere (Comes t) told → isThere v t ≡ true
-  pub came : (t : Thing) → isThere s t ≡ false → isThere v t ≡ true → Somewhere (Comes t) told
+  pub brings : (t : Thing) → Somewhere (Comes t) events → isThere v t ≡ true
+  pub came : (t : Thing) → isThere s t ≡ false → isThere v t ≡ true → Somewhere (Comes t) events
 
 -- the other routines take turns as before
 pub others-going :
-    {r : ℕ} {s v : State} {told : List Happening} → Turned r s told v → (q : ℕ) → q ≢ r → isGoing v q ≡ isGoing s q
+    {r : ℕ} {s v : State} {events : List Event} → Turned r s events v → (q : ℕ) → q ≢ r → isGoing v q ≡ isGoing s q
 others-going turned q n = let same = turned .standings .others q n in rw (same .suspended, same .stage)
 
 module _ (book : List ℕ) where
@@ -89,25 +89,25 @@ module _ (book : List ℕ) where
   waits-too r p t u v same waits = rw (waits .place) at (waits-at v r same (waits .asks))
 
   -- it waits for a thing that is not there
-  pub record Lacks (s : State) (r : ℕ) : Type 0 where
+  pub record WasMissing (s : State) (r : ℕ) : Type 0 where
     pub place : ℕ
     pub thing : Thing
     pub waits : Waits s r place thing
     pub missed : isThere s thing ≡ false
 
   -- a turn that is to be continued: it ends at a step whose thing is missing, and everything before went on
-  pub record ToBeContinued (r : ℕ) (u : State) (told : List Happening) : Type 0 where
-    pub lacks : Lacks u r
-    pub before : List Happening
-    pub history : told ≡ before ++ (missing r (lacks .place) (lacks .thing) ∷ [])
+  pub record ToBeContinued (r : ℕ) (u : State) (events : List Event) : Type 0 where
+    pub lacks : WasMissing u r
+    pub before : List Event
+    pub trace : events ≡ before ++ (missing r (lacks .place) (lacks .thing) ∷ [])
     pub calm : howMany isMiss before ≡ 0
 
   pub record TurnLaws (Listed : ℕ → Type 0) (Ok : State → Type 0) : Type 0 where
     -- what a state keeps in a round
     pub stays : (r : ℕ) (s : State) → Listed r → Ok s → Ok (turn book r s .state)
-    pub staysAgain : (s : State) → Ok s → Ok (again s)
+    pub staysNextPass : (s : State) → Ok s → Ok (forNextPass s)
     -- what a turn does to the things, to the flags and to where routines stand
-    pub turned : (r : ℕ) (s : State) → Listed r → Ok s → Turned r s (turn book r s .told) (turn book r s .state)
+    pub turned : (r : ℕ) (s : State) → Listed r → Ok s → Turned r s (turn book r s .trace) (turn book r s .state)
     -- how a turn comes out
     pub over : (r : ℕ) (s : State) → Listed r → Ok s → isGoing s r ≡ false → turn book r s ≡ notTaken s
     pub out :
@@ -116,17 +116,17 @@ module _ (book : List ℕ) where
     -- a turn that is to be continued ends by a missing thing, and there is none once the round is being closed
     pub continues :
         (r : ℕ) (s : State) → Listed r → Ok s → isGoing s r ≡ true → isGoing (turn book r s .state) r ≡ true →
-        (s .eoi ≡ false) × ToBeContinued r (turn book r s .state) (turn book r s .told)
+        (s .eoi ≡ false) × ToBeContinued r (turn book r s .state) (turn book r s .trace)
     pub calm :
         (r : ℕ) (s : State) → Listed r → Ok s → isGoing s r ≡ true → isGoing (turn book r s .state) r ≡ false → s .eoi ≡ false →
-        howMany isMiss (turn book r s .told) ≡ 0
+        howMany isMiss (turn book r s .trace) ≡ 0
     -- a try again: with nothing come it finds its thing missing, and otherwise it goes past
     pub missesAgain :
         (r p : ℕ) (t : Thing) (s : State) → Listed r → Ok s → isGoing s r ≡ true → Waits s r p t → isThere s t ≡ false →
-        turn book r s .told ≡ missing r p t ∷ []
+        turn book r s .trace ≡ missing r p t ∷ []
     pub unchanged :
         (r p : ℕ) (t : Thing) (s : State) → Listed r → Ok s → isGoing s r ≡ true → Waits s r p t → isThere s t ≡ false → s .eoi ≡ false →
-        turn book r s ≡ record { state = s; told = missing r p t ∷ []; turns = Took Continued ∷ [] }
+        turn book r s ≡ record { state = s; trace = missing r p t ∷ []; turns = Took Continued ∷ [] }
     pub goesPast :
         (r p : ℕ) (t : Thing) (s : State) → Listed r → Ok s → isGoing s r ≡ true → Waits s r p t → isThere s t ≡ true →
-        IsPast r p t (turn book r s .told)
+        IsPast r p t (turn book r s .trace)

@@ -7,6 +7,7 @@ use mathlib.Core.List.{List}
 use mathlib.Core.Logic.{_⊎_, inl, inr}
 use native.Mathlib.Omega.{arith}
 use lib.ListN.{length-set}
+use Rattle.kinds.specs.Steps.{stepsIn}
 use Rattle.blocks.proofs.Views.{standing-below}
 use Rattle.layout.specs.Layout.{routinesOf, countsOf}
 use Rattle.directory.specs.Directory.{routineSteps}
@@ -18,8 +19,7 @@ use Rattle.round.specs.declared.Ending.the-variants.{Ended, Rested, Miss
 use Rattle.round.specs.declared.Position.{Position}
 use Rattle.round.specs.State.{State, withGame}
 use Rattle.round.specs.Actions.{positionOf}
-use Rattle.round.specs.Jumps.{sizeOf}
-use Rattle.round.specs.Rounds.{ticks, mostTicks, stageAfter, withEnd, behindTurn, again, ticksOf, turn}
+use Rattle.round.specs.Rounds.{ticks, mostTicks, stageAfter, withEnd, behindTurn, forNextPass, ticksOf, turn}
 use Rattle.round.specs.claims.Sound.{Sound}
 use Rattle.round.proofs.Leads.{Leaves, leads, restOver}
 use Rattle.round.proofs.Acts.{Stands}
@@ -53,8 +53,8 @@ end-sound r {s} h =
       numbers = h .numbers;
     }
 
-pub again-sound : {book : List ℕ} (s : State) → Sound book s → Sound book (again s)
-again-sound s h =
+pub next-pass-sound : {book : List ℕ} (s : State) → Sound book s → Sound book (forNextPass s)
+next-pass-sound s h =
     record { fits = h .fits; present = h .present; endSignals = h .endSignals; numbers = h .numbers }
 
 -- routine r of the book
@@ -95,9 +95,9 @@ module _ (book : List ℕ) (a : Accepted book) where
     steps = routineSteps book r
 
     -- a step that goes on leads to a place of the routine
-    pub leaves-inside : (x : Position) (q : ℕ) → Leaves (countsOf book) steps x q → q ≤ sizeOf steps
+    pub leaves-inside : (x : Position) (q : ℕ) → Leaves (countsOf book) steps x q → q ≤ stepsIn steps
     leaves-inside x q (leads l) = leads-inside (countsOf book) steps (parse-of book a r below) (parse-pauses book a r below) (x .place) q l
-    leaves-inside x q (restOver begun form) = omega (arith, standing-below (countsOf book) steps (sizeOf steps) (x .place) form)
+    leaves-inside x q (restOver begun form) = omega (arith, standing-below (countsOf book) steps (stepsIn steps) (x .place) form)
 
     -- the steps of a turn keep a sound state sound, and leave the routine where it may stand
     ticks-stay :
@@ -107,9 +107,9 @@ module _ (book : List ℕ) (a : Accepted book) where
     ticks-stay =
         ticks-by (countsOf book) r steps
         (λ x s t. Stands (countsOf book) steps x → Sound book s → Stands (countsOf book) steps (t .position) × Sound book (t .state))
-        (λ x s q e told t same leaves right says rest stand h.
+        (λ x s q e events t same leaves right says rest stand h.
         rest (fresh-stands (countsOf book) steps q (leaves-inside x q leaves)) (effect-sound book a s e right h))
-        (λ x s how y told same stays stops stand h. (stays stand, h))
+        (λ x s how y events same stays stops stand h. (stays stand, h))
         (λ x s stand h. (stand, h))
 
   pub turn-sound : (r : ℕ) (s : State) → r < routinesOf book → Sound book s → Sound book (turn book r s .state)

@@ -13,23 +13,23 @@ use Rattle.verdicts.specs.Verdicts.{refused, _orElse_, unless}
 use Rattle.layout.specs.Layout.{stepsOf}
 use Rattle.book.specs.Book.{stepsPart, bookVerdict}
 use Rattle.game.specs.declared.Game.{Game}
-use Rattle.round.specs.State.{Happening, gave, ended, missing, past, marked, completed}
+use Rattle.round.specs.State.{Event, gave, ended, missing, past, marked, completed}
 use Rattle.fitting.specs.Fitting.{fitVerdict}
-use Rattle.round.specs.Rounds.{Round, round}
+use Rattle.round.specs.Rounds.{PlayedRound, round}
 
 -- how many of the first n steps of a part of the book are mark steps
 abbrev pub markSteps : List ℕ → ℕ → ℕ
 markSteps steps n = countBelow (λ p. eqb (opAt steps p) opMark) n
 
 -- the marks among what happened, each a routine and a number, "in the order made"
-unfoldable pub marksIn : List Happening → List (ℕ × ℤ)
+unfoldable pub marksIn : List Event → List (ℕ × ℤ)
 marksIn [] = []
-marksIn (gave e k ∷ told) = marksIn told
-marksIn (ended r ∷ told) = marksIn told
-marksIn (missing r p t ∷ told) = marksIn told
-marksIn (past r p t ∷ told) = marksIn told
-marksIn (marked r n ∷ told) = (r, n) ∷ marksIn told
-marksIn (completed r p ∷ told) = marksIn told
+marksIn (gave e k ∷ events) = marksIn events
+marksIn (ended r ∷ events) = marksIn events
+marksIn (missing r p t ∷ events) = marksIn events
+marksIn (past r p t ∷ events) = marksIn events
+marksIn (marked r n ∷ events) = (r, n) ∷ marksIn events
+marksIn (completed r p ∷ events) = marksIn events
 
 -- "signed 32-bit numbers, two to a mark"
 abbrev pub numbersPerMark : ℕ
@@ -50,7 +50,7 @@ spaceVerdict book buffer = unless (leb (spaceFor book) (length buffer)) (refused
 abbrev pub mostNumbers : ℕ
 mostNumbers = 1024
 
-abbrev pub numbersVerdict : Round → Verdict
+abbrev pub numbersVerdict : PlayedRound → Verdict
 numbersVerdict p = unless (leb (length (p .played .state .numbers)) mostNumbers) (refused 11 0)
 
 -- "a round checks 1 to 7, then 9, 10, 11"
@@ -70,9 +70,9 @@ turnedDown v g buffer = record { verdict = v; game = g; passes = 0; marks = 0; b
 
 -- "An accepted round gives the game, the passes, the count of marks, and the marks in the order made; the buffer beyond the marks is
 -- untouched."
-abbrev pub playedOut : Verdict → Round → List ℤ → Answer
+abbrev pub playedOut : Verdict → PlayedRound → List ℤ → Answer
 playedOut v p buffer =
-    let marks = marksIn (p .played .told) in
+    let marks = marksIn (p .played .trace) in
     record {
       verdict = v;
       game = p .played .state .game;

@@ -1,22 +1,17 @@
 -- Where the steps that hold blocks lead, and their markers. Document 01: "A place on an else stands for the end of the first block, on a
 -- while's end for its next test."
-use Prim.Native.Nat.{ℕ, zero, suc, _+_, _-_, _/_}
+use Prim.Native.Nat.{ℕ, zero, suc, _+_, _-_}
 use mathlib.Core.Bool.{_||_}
 use mathlib.Core.List.{List}
 use lib.Dec.{eqb}
-use lib.ListN.{length}
 use Rattle.kinds.specs.Ops.{opIf, opWhile, opEnd}
 use Rattle.numbers.specs.Choice.{if_then_else_}
-use Rattle.kinds.specs.Steps.{stepBytes, opAt}
+use Rattle.kinds.specs.Steps.{opAt, stepsIn}
 use Rattle.partners.specs.Partners.{partnerOf}
-
--- how many steps a routine's part of the book has
-abbrev pub sizeOf : List ℕ → ℕ
-sizeOf steps = length steps / stepBytes
 
 -- the place behind the partner of the step at p, an opening or an else
 unfoldable pub pastPartner : List ℕ → ℕ → ℕ
-pastPartner steps p = partnerOf steps (sizeOf steps - (p + 1)) 0 (p + 1) + 1
+pastPartner steps p = partnerOf steps (stepsIn steps - (p + 1)) 0 (p + 1) + 1
 
 -- the search for an end's opening goes back from it, and skips inner pairs: d of them are open at place p
 abbrev pub openingBy : (ℕ → ℕ) → ℕ → ℕ → ℕ → ℕ

@@ -7,6 +7,7 @@ use lib.Dec.{eqb}
 use lib.ListN.{set}
 use Rattle.numbers.specs.Choice.{if_then_else_}
 use Rattle.kinds.specs.declared.Counts.{Counts}
+use Rattle.kinds.specs.Steps.{stepsIn}
 use Rattle.layout.specs.Layout.{mostRoutines, mostSteps, countsOf}
 use Rattle.directory.specs.Directory.{routineSteps}
 use Rattle.game.specs.declared.Routine.{Routine}
@@ -20,9 +21,8 @@ use Rattle.round.specs.declared.Act.{Act}
 use Rattle.round.specs.declared.Act.the-variants.{Goes, Halts}
 use Rattle.round.specs.declared.Turn.{Turn}
 use Rattle.round.specs.declared.Turn.the-variants.{PassedOver, Took}
-use Rattle.round.specs.State.{State, withGame, withEndSignals, withMoves, Happening, completed}
+use Rattle.round.specs.State.{State, withGame, withEndSignals, withMoves, Event, completed}
 use Rattle.round.specs.Actions.{positionOf, placed, atStart}
-use Rattle.round.specs.Jumps.{sizeOf}
 use Rattle.round.specs.Ticks.{tick, fresh, effectOn}
 
 -- the steps that a routine takes in a turn: how they end, where they leave it, the state behind them, and what happened
@@ -30,30 +30,30 @@ pub record Ticks : Type 0 where
   pub ending : Ending
   pub position : Position
   pub state : State
-  pub told : List Happening
+  pub trace : List Event
 
 -- behind the step of routine r at place p, in which this happened: the next ones (rule 3), or the end of the turn (rule 4)
-abbrev pub follow : ℕ → ℕ → Act → List Happening → State → (ℕ → State → Ticks) → Ticks
-follow r p (Goes q e) told s next =
+abbrev pub follow : ℕ → ℕ → Act → List Event → State → (ℕ → State → Ticks) → Ticks
+follow r p (Goes q e) events s next =
     let rest = next q (effectOn e s) in
     record {
       ending = rest .ending;
       position = rest .position;
       state = rest .state;
-      told = completed r p ∷ told ++ rest .told;
+      trace = completed r p ∷ events ++ rest .trace;
     }
-follow r p (Halts how y) told s next = record { ending = how; position = y; state = s; told = told }
+follow r p (Halts how y) events s next = record { ending = how; position = y; state = s; trace = events }
 
 -- the steps of routine r from position x on, at most n of them; begun is "cleared when that step is past"
 unfoldable pub ticks : ℕ → Counts → ℕ → List ℕ → Position → State → Ticks
-ticks zero counts r steps x s = record { ending = Continued; position = x; state = s; told = [] }
+ticks zero counts r steps x s = record { ending = Continued; position = x; state = s; trace = [] }
 ticks (suc n) counts r steps x s =
     let t = tick counts r steps x s in
-    follow r (x .place) (t .act) (t .told) s (λ p u. ticks n counts r steps (fresh p) u)
+    follow r (x .place) (t .act) (t .events) s (λ p u. ticks n counts r steps (fresh p) u)
 
 -- the ticks that a turn may take, one for each step and one more; that they are enough is Enough.antt's claim
 abbrev pub mostTicks : List ℕ → ℕ
-mostTicks steps = sizeOf steps + 1
+mostTicks steps = stepsIn steps + 1
 
 -- the stage in which a turn leaves its routine: the status of rule 34
 abbrev pub stageAfter : Ending → ℕ
@@ -80,21 +80,21 @@ afterTurn r t =
     withEnd (t .ending) r (withGame (t .state) (withRoutine g r (behindTurn (routineAt g r) (t .ending) (t .position))))
 
 -- some turns: the state behind them, what happened, and how each came out
-pub record Played : Type 0 where
+pub record PlayedTurns : Type 0 where
   pub state : State
-  pub told : List Happening
+  pub trace : List Event
   pub turns : List Turn
 
 -- rule 33, "Nothing is done": the routine is passed over, and the state stays s
-abbrev pub notTaken : State → Played
-notTaken s = record { state = s; told = []; turns = PassedOver ∷ [] }
+abbrev pub notTaken : State → PlayedTurns
+notTaken s = record { state = s; trace = []; turns = PassedOver ∷ [] }
 
 -- rule 34: routine r takes these steps; behind them its stage, end signal and the move flag are set (afterTurn)
-abbrev pub taken : ℕ → Ticks → Played
-taken r t = record { state = afterTurn r t; told = t .told; turns = Took (t .ending) ∷ [] }
+abbrev pub taken : ℕ → Ticks → PlayedTurns
+taken r t = record { state = afterTurn r t; trace = t .trace; turns = Took (t .ending) ∷ [] }
 
-abbrev pub followedBy : Played → Played → Played
-followedBy a b = record { state = b .state; told = a .told ++ b .told; turns = a .turns ++ b .turns }
+abbrev pub followedBy : PlayedTurns → PlayedTurns → PlayedTurns
+followedBy a b = record { state = b .state; trace = a .trace ++ b .trace; turns = a .turns ++ b .turns }
 
 -- the b of rules 33 and 34: false for CONT alone
 abbrev pub isDone : Turn → Bool
@@ -110,16 +110,16 @@ allDone [] = true
 allDone (t ∷ ts) = isDone t && allDone ts
 
 -- rule 38: the flags for another pass
-abbrev pub again : State → State
-again s = withMoves s false (not (s .moved))
+abbrev pub forNextPass : State → State
+forNextPass s = withMoves s false (not (s .moved))
 
 -- a round's passes, and how many they are
-pub record Round : Type 0 where
-  pub played : Played
+pub record PlayedRound : Type 0 where
+  pub played : PlayedTurns
   pub passes : ℕ
 
 -- a pass: alone if all its turns are done (rule 37), and otherwise with the passes behind it (rule 38)
-abbrev pub passThen : Played → Round → Round
+abbrev pub passThen : PlayedTurns → PlayedRound → PlayedRound
 passThen first others =
     if allDone (first .turns)
     then record { played = first; passes = 1 }
@@ -143,33 +143,33 @@ module _ (book : List ℕ) where
       ticks (mostTicks steps) (countsOf book) r steps (positionOf (routineAt (s .game) r)) s
 
   -- rules 33 and 34
-  unfoldable pub turn : ℕ → State → Played
+  unfoldable pub turn : ℕ → State → PlayedTurns
   turn r s =
       let x = routineAt (s .game) r in
       if x .suspended || not (eqb (x .stage) continuing) then notTaken s else taken r (ticksOf r s)
 
   -- rules 35 and 36: the listed routines in order
-  unfoldable pub pass : List ℕ → State → Played
-  pass [] s = record { state = s; told = []; turns = [] }
+  unfoldable pub pass : List ℕ → State → PlayedTurns
+  pass [] s = record { state = s; trace = []; turns = [] }
   pass (r ∷ rs) s =
       let first = turn r s in
       followedBy first (pass rs (first .state))
 
   -- rules 37 and 38, with at most n passes
-  unfoldable pub instant : ℕ → List ℕ → State → Round
-  instant zero rs s = record { played = record { state = s; told = []; turns = [] }; passes = 0 }
+  unfoldable pub instant : ℕ → List ℕ → State → PlayedRound
+  instant zero rs s = record { played = record { state = s; trace = []; turns = [] }; passes = 0 }
   instant (suc n) rs s =
       let first = pass rs s in
-      passThen first (instant n rs (again (first .state)))
+      passThen first (instant n rs (forNextPass (first .state)))
 
   -- a round: the eight actions, then its passes
-  unfoldable pub round : Game → Round
+  unfoldable pub round : Game → PlayedRound
   round g = instant mostPasses (listedIn g) (atStart g)
 
   -- the state behind it
-  abbrev pub back : Game → State
-  back g = round g .played .state
+  abbrev pub stateAfter : Game → State
+  stateAfter g = round g .played .state
 
   -- what happens in it
-  abbrev pub historyOf : Game → List Happening
-  historyOf g = round g .played .told
+  abbrev pub traceOf : Game → List Event
+  traceOf g = round g .played .trace

@@ -84,17 +84,18 @@ pub data Thing : Type 0 where
   end : ℕ → Thing
   number : ℕ → ℕ → Thing
 
--- What happens in a round, told beside the state, which does not depend on it: a step gives a signal, with its k-th number or, for k = 0,
--- with none; a routine ends; a routine's try at a place finds a thing missing, or finds it and goes past; a routine writes a mark; a
--- routine completes the step at a place, so that its turn goes on behind it. Of a step that is completed this is told first, and then what
--- else happens in it. A step that halts the turn is not told as completed: a rest, a step whose thing is missing, the routine's end.
-pub data Happening : Type 0 where
-  gave : ℕ → ℕ → Happening
-  ended : ℕ → Happening
-  missing : ℕ → ℕ → Thing → Happening
-  past : ℕ → ℕ → Thing → Happening
-  marked : ℕ → ℤ → Happening
-  completed : ℕ → ℕ → Happening
+-- An event of a round. A trace, the events in order, is kept beside the state, which does not depend on it: a step gives a signal, with its
+-- k-th number or, for k = 0, with none; a routine ends; a routine's try at a place finds a thing missing, or finds it and goes past; a
+-- routine writes a mark; a routine completes the step at a place, so that its turn goes on behind it. Of a step that is completed this
+-- comes first, and then what else happens in it. A step that halts the turn is not completed: a rest, a step whose thing is missing, the
+-- routine's end.
+pub data Event : Type 0 where
+  gave : ℕ → ℕ → Event
+  ended : ℕ → Event
+  missing : ℕ → ℕ → Thing → Event
+  past : ℕ → ℕ → Thing → Event
+  marked : ℕ → ℤ → Event
+  completed : ℕ → ℕ → Event
 
 -- the numbers given with signal e, in order: values(event)
 unfoldable pub numbersWith : ℕ → List (ℕ × ℤ) → List ℤ

@@ -12,7 +12,7 @@ use Rattle.kinds.specs.declared.Kind.the-variants as kind
 use Rattle.kinds.specs.declared.Step.{Step}
 use Rattle.kinds.specs.declared.Step.the-variants as step
 use Rattle.kinds.specs.declared.Counts.{Counts}
-use Rattle.kinds.specs.Steps.{stepAt}
+use Rattle.kinds.specs.Steps.{stepAt, stepsIn}
 use Rattle.game.specs.Game.{routineAt, counterAt, withStop, withSuspend, withResume, withStart, withStarting, withCounter, withRoutine}
 use Rattle.round.specs.declared.Ending.the-variants.{Ended, Rested, Missed, Continued}
 use Rattle.round.specs.declared.Position.{Position}
@@ -20,17 +20,17 @@ use Rattle.round.specs.declared.Effect.{Effect}
 use Rattle.round.specs.declared.Effect.the-variants.{Nothing, Mark, Put, Add, Give, GiveNumber, Start, Stop, Suspend, Resume}
 use Rattle.round.specs.declared.Act.{Act}
 use Rattle.round.specs.declared.Act.the-variants.{Goes, Halts}
-use Rattle.round.specs.State.{State, withGame, withPresent, withNumbers, withMoves, Thing, signal, end, number, Happening, gave}
+use Rattle.round.specs.State.{State, withGame, withPresent, withNumbers, withMoves, Thing, signal, end, number, Event, gave}
 use Rattle.round.specs.State.{ended, missing, past, marked, numbersOf, numberAt, isThere}
-use Rattle.round.specs.Jumps.{sizeOf, pastPartner, fromEnd}
+use Rattle.round.specs.Jumps.{pastPartner, fromEnd}
 
 -- what a step comes to, and what happens in it
 pub record Tick : Type 0 where
   pub act : Act
-  pub told : List Happening
+  pub events : List Event
 
-abbrev pub telling : Act → List Happening → Tick
-telling a told = record { act = a; told = told }
+abbrev pub tickWith : Act → List Event → Tick
+tickWith a events = record { act = a; events = events }
 
 -- a place with nothing begun
 abbrev pub fresh : ℕ → Position
@@ -51,13 +51,13 @@ module _ (r : ℕ) (steps : List ℕ) (x : Position) (s : State) where
   onward e = Goes (x .place + 1) e
 
   -- where its thing is missing, a routine is to be continued, and rests at position y once the round is being closed
-  abbrev pub lacks : Position → Act
-  lacks y = if s .eoi then Halts Missed y else Halts Continued x
+  abbrev pub whenMissing : Position → Act
+  whenMissing y = if s .eoi then Halts Missed y else Halts Continued x
 
   -- a try of op 8 to 12: it "finds the thing and completes the step", with this effect, or "it goes no further because that isn't there"
   abbrev pub tries : Thing → Effect → Position → Tick
   tries t e y =
-      if isThere s t then telling (onward e) (past r (x .place) t ∷ []) else telling (lacks y) (missing r (x .place) t ∷ [])
+      if isThere s t then tickWith (onward e) (past r (x .place) t ∷ []) else tickWith (whenMissing y) (missing r (x .place) t ∷ [])
 
   -- rules 14 to 18; "every other pause leaves it on its own step"
   abbrev pub waits : Thing → Tick
@@ -67,12 +67,12 @@ module _ (r : ℕ) (steps : List ℕ) (x : Position) (s : State) where
   abbrev pub restsFor : ℕ → Act
   restsFor k = if eqb k 0 then onward Nothing else Halts Rested (begunAt (x .place) (k - 1))
 
-  -- rules 25 to 29, with the count k; with none left and the thing not there the turn goes on all the same, and the try is told neither as
-  -- missing, since it goes further, nor as past, since it found nothing
+  -- rules 25 to 29, with the count k; with none left and the thing not there the turn goes on all the same, and the try is neither
+  -- missing, since it goes further, nor past, since it found nothing
   unfoldable pub waitsFor : Thing → ℕ → Tick
   waitsFor t k =
       if eqb k 0 && not (isThere s t)
-      then telling (onward Nothing) []
+      then tickWith (onward Nothing) []
       else tries t Nothing (begunAt (x .place) (k - 1))
 
   -- rules 30 to 32; "a reading that stayed missing, leaves the place on the step that follows it in the book"
@@ -87,18 +87,18 @@ module _ (r : ℕ) (steps : List ℕ) (x : Position) (s : State) where
   -- the step of this kind
   unfoldable pub tickOf : Kind → Tick
   -- rule 1
-  tickOf (kind.Mark n) = telling (onward (Mark n)) (marked r n ∷ [])
-  tickOf (kind.Set c n) = telling (onward (Put c n)) []
-  tickOf (kind.Add c n) = telling (onward (Add c (sumOf (counterAt (s .game) c) n))) []
-  tickOf (kind.Take c d) = telling (onward (Add c (sumOf (counterAt (s .game) c) (counterAt (s .game) d)))) []
+  tickOf (kind.Mark n) = tickWith (onward (Mark n)) (marked r n ∷ [])
+  tickOf (kind.Set c n) = tickWith (onward (Put c n)) []
+  tickOf (kind.Add c n) = tickWith (onward (Add c (sumOf (counterAt (s .game) c) n))) []
+  tickOf (kind.Take c d) = tickWith (onward (Add c (sumOf (counterAt (s .game) c) (counterAt (s .game) d)))) []
   -- rules 12 and 13
-  tickOf (kind.Signal e) = telling (onward (Give e)) (gave e 0 ∷ [])
+  tickOf (kind.Signal e) = tickWith (onward (Give e)) (gave e 0 ∷ [])
   tickOf (kind.SignalNumber e c) =
-      telling (onward (GiveNumber e (counterAt (s .game) c))) (gave e (length (numbersOf s e) + 1) ∷ [])
+      tickWith (onward (GiveNumber e (counterAt (s .game) c))) (gave e (length (numbersOf s e) + 1) ∷ [])
   -- rule 11; "Op 6 .. leaves the place on the step that follows it in the book"
-  tickOf kind.Rest = telling (Halts Rested (fresh (x .place + 1))) []
+  tickOf kind.Rest = tickWith (Halts Rested (fresh (x .place + 1))) []
   -- rules 23 and 24
-  tickOf (kind.RestFor n) = telling (restsFor (countAt x n)) []
+  tickOf (kind.RestFor n) = tickWith (restsFor (countAt x n)) []
   -- rules 14 to 16
   tickOf (kind.Wait e) = waits (signal e)
   -- rules 25 to 27
@@ -110,27 +110,27 @@ module _ (r : ℕ) (steps : List ℕ) (x : Position) (s : State) where
   -- rules 30 to 32
   tickOf (kind.Read e c k) = reads e c k
   -- rules 19 to 22
-  tickOf (kind.Start t) = telling (onward (Start t)) []
-  tickOf (kind.Stop t) = telling (onward (Stop t)) []
-  tickOf (kind.Suspend t) = telling (onward (Suspend t)) []
-  tickOf (kind.Resume t) = telling (onward (Resume t)) []
+  tickOf (kind.Start t) = tickWith (onward (Start t)) []
+  tickOf (kind.Stop t) = tickWith (onward (Stop t)) []
+  tickOf (kind.Suspend t) = tickWith (onward (Suspend t)) []
+  tickOf (kind.Resume t) = tickWith (onward (Resume t)) []
   -- rules 9 and 10
-  tickOf (kind.If c relation n) = telling (tests c relation n) []
+  tickOf (kind.If c relation n) = tickWith (tests c relation n) []
   -- "A place on an else stands for the end of the first block": past its if
-  tickOf kind.Else = telling (Goes (pastPartner steps (x .place)) Nothing) []
+  tickOf kind.Else = tickWith (Goes (pastPartner steps (x .place)) Nothing) []
   -- rules 5 and 6
-  tickOf (kind.While c relation n) = telling (tests c relation n) []
+  tickOf (kind.While c relation n) = tickWith (tests c relation n) []
   -- behind a while's body back to its test, by rule 7, and otherwise past its if
-  tickOf kind.End = telling (Goes (fromEnd steps (x .place)) Nothing) []
+  tickOf kind.End = tickWith (Goes (fromEnd steps (x .place)) Nothing) []
 
   -- the routine's end, behind its last step: "An ended routine's place is its step count."
-  abbrev pub quits : Tick
-  quits = telling (Halts Ended (fresh (sizeOf steps))) (ended r ∷ [])
+  abbrev pub endsHere : Tick
+  endsHere = tickWith (Halts Ended (fresh (stepsIn steps))) (ended r ∷ [])
 
   -- where a step stands, or none: in an accepted book only the place behind a routine's last step has none
   abbrev pub tickAt : Step → Tick
   tickAt (step.Kind k) = tickOf k
-  tickAt step.Refused = quits
+  tickAt step.Refused = endsHere
 
 unfoldable pub tick : Counts → ℕ → List ℕ → Position → State → Tick
 tick counts r steps x s = tickAt r steps x s (stepAt counts steps (x .place))
@@ -143,7 +143,7 @@ given s e = withMoves (withPresent s (set (s .present) e true)) true (s .eoi)
 abbrev pub givenNumber : State → ℕ → ℤ → State
 givenNumber s e v = withNumbers (given s e) (s .numbers ++ ((e, v) ∷ []))
 
--- the state behind an effect; a mark is told and changes nothing
+-- the state behind an effect; a mark is an event and changes nothing
 unfoldable pub effectOn : Effect → State → State
 effectOn Nothing s = s
 effectOn (Mark n) s = s

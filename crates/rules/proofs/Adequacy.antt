@@ -21,13 +21,13 @@ use Rattle.round.specs.State.{State}
 use Rattle.round.specs.Actions.{positionOf}
 use Rattle.round.specs.Rounds.{round}
 use Rattle.round.specs.Answers.{marksIn, numbersPerMark, answer, spaceFor}
-use Rattle.round.proofs.Telling.{accepted-played}
+use Rattle.round.proofs.Reasons.{accepted-played}
 use Rattle.round.proofs.Once.{completed-once}
 use Rattle.round.proofs.After.{round-fits}
 use Rattle.round.proofs.Demand.{round-accepted}
 use Rattle.rules.specs.Instructions.{nothing}
 use Rattle.rules.specs.Residual.{residual, _⇝_, same}
-use Rattle.rules.specs.View.{view}
+use Rattle.rules.specs.Scheduled.{schedulerIn}
 use Rattle.rules.specs.Claims.{Stands, threadsOf, ByTheRules}
 use Rattle.rules.proofs.Rounds.{round-given}
 use Rattle.rules.proofs.Buffers.{written-marks, written-beyond, written-length}
@@ -51,18 +51,18 @@ threads-stand book a g r h = by (decLt r (routinesOf book))
 pub round-by-the-rules :
     (book : List ℕ) (g : Game) (buffer : List ℤ) → answer book g buffer .verdict ≡ accepted →
     ByTheRules book g buffer (answer book g buffer)
-unfolding between view
+unfolding between schedulerIn
 round-by-the-rules book g buffer e =
     let ((a, fits, space), played) = accepted-played book g buffer e in
     let (run, log, given, passes, stands, positions) =
     round-given book a (threadsOf book a g) (between g) [] fits (threads-stand book a g) in
     let last = round book g .played .state in
-    let marks = marksIn (round book g .played .told) in
+    let marks = marksIn (round book g .played .trace) in
     let room : numbersPerMark * length marks ≤ length buffer = omega (arith, space, completed-once book a g fits .space) in (
       a,
       log,
       run,
-      view last marks,
+      schedulerIn last marks,
       rw played (
           record {
             verdict = rw played at e;

@@ -30,7 +30,7 @@ use Rattle.round.specs.declared.Effect.the-variants.{Nothing}
 use Rattle.round.specs.declared.Act.the-variants.{Goes}
 use Rattle.round.specs.State.{State}
 use Rattle.round.specs.Jumps.{pastPartner, fromEnd}
-use Rattle.round.specs.Ticks.{Tick, telling, fresh, tick, tickOf, tickAt}
+use Rattle.round.specs.Ticks.{Tick, tickWith, fresh, tick, tickOf, tickAt}
 use Rattle.round.proofs.Leads.{formAt}
 use Rattle.round.proofs.Forms.{form-there}
 use Rattle.round.proofs.Jumps.{past-partner, from-if, from-else, from-while}
@@ -38,7 +38,7 @@ use Rattle.rules.specs.Instructions.{TERM, Instruction, nothing, _then_,
 use Rattle.rules.specs.Instructions as paper
 use Rattle.rules.specs.Rules.{IsTrue, rule2, rule3, rule4, rule5, rule6, rule7, rule8, rule9, rule10}
 use Rattle.rules.specs.Residual.{instructionOf, testOf, ofBlock, leftOfBlock, leftOfStep, same, drop, first, body}
-use Rattle.rules.specs.View.{view}
+use Rattle.rules.specs.Scheduled.{schedulerIn}
 use Rattle.rules.proofs.Walks.{Marks, Ends}
 use Rattle.rules.proofs.Leaves.{ByRule, leaf-at}
 use Rattle.rules.proofs.Places.{block-start, more-first, more-behind, only-at, only-in, loop-at, loop-in}
@@ -57,9 +57,9 @@ module _ (counts : Counts) (r : ℕ) (steps : List ℕ) (few : counts .routines 
   unfolding tick
   tick-at x s l e = ap (λ (a : Step). tickAt r steps x s a) (ap stepOf l ∙ e)
 
-  -- the step at x leads to q, and changes and tells nothing
+  -- the step at x leads to q, and changes nothing and has no event
   abbrev JustLeads : Position → State → ℕ → Type 0
-  JustLeads x s q = tick counts r steps x s ≡ telling (Goes q Nothing) []
+  JustLeads x s q = tick counts r steps x s ≡ tickWith (Goes q Nothing) []
 
   -- an else and an end lead on
   else-leads :
@@ -140,15 +140,17 @@ module _ (counts : Counts) (r : ℕ) (steps : List ℕ) (few : counts .routines 
 
     -- The test of the opening at p is made, and the turn is in the block behind it, or past its partner.
     data Tested (p n : ℕ) (s : State) (ms : Marks) : Type 0 where
-      enters : (m : ℕ) → m < n → IsTrue (testOf (stepOf p)) (view s ms) → Turn m (fresh (suc p)) s ms → Tested p n s ms
-      skips : (m : ℕ) → m < n → (IsTrue (testOf (stepOf p)) (view s ms) → ⊥) → Turn m (fresh (pastPartner steps p)) s ms → Tested p n s ms
+      enters : (m : ℕ) → m < n → IsTrue (testOf (stepOf p)) (schedulerIn s ms) → Turn m (fresh (suc p)) s ms → Tested p n s ms
+      skips :
+          (m : ℕ) → m < n → (IsTrue (testOf (stepOf p)) (schedulerIn s ms) → ⊥) → Turn m (fresh (pastPartner steps p)) s ms →
+          Tested p n s ms
 
     test-by :
         {p n : ℕ} {s : State} {ms : Marks} (c relation : ℕ) (k : ℤ) (b : Bool) →
         testOf (stepOf p) ≡ record { counter = c; relation = relation; number = k } →
         eqb (relationOf relation (counterAt (s .game) c) k) 1 ≡ b →
         (m : ℕ) × (m < n) × Turn m (fresh (if b then suc p else pastPartner steps p)) s ms → Tested p n s ms
-    unfolding view
+    unfolding schedulerIn
     test-by {s = s} c relation k true t e (m, l, next) = enters m l (rw t (relation-holds relation (counterAt (s .game) c) k .0 e)) next
     test-by {s = s} c relation k false t e (m, l, next) = skips m l (rw t (relation-fails relation (counterAt (s .game) c) k e)) next
 
@@ -167,9 +169,9 @@ module _ (counts : Counts) (r : ℕ) (steps : List ℕ) (few : counts .routines 
     one-tested :
         {d p q : ℕ} (b : ParsedBlock at d (suc p) q) → at q ≡ stands EndMarker → BlockClaim b →
         {n : ℕ} {i : Instruction} {left : Position → Instruction} {s : State} {ms : Marks} →
-        ((m : ℕ) → m < n → IsTrue (testOf (stepOf p)) (view s ms) → BlockEnds b (ofBlock r stepOf b) m s ms →
+        ((m : ℕ) → m < n → IsTrue (testOf (stepOf p)) (schedulerIn s ms) → BlockEnds b (ofBlock r stepOf b) m s ms →
         StepEnds i left p (suc q) m s ms) →
-        ((IsTrue (testOf (stepOf p)) (view s ms) → ⊥) → Run i s ms TERM nothing s ms) →
+        ((IsTrue (testOf (stepOf p)) (schedulerIn s ms) → ⊥) → Run i s ms TERM nothing s ms) →
         Tested p n s ms → StepEnds i left p (suc q) n s ms
     one-tested b k B into out (enters m l holds t) = step-as (λ α i w ws run. run) (omega arith) (into m l holds (from-start b B t))
     one-tested b k B {s = s} {ms = ms} into out (skips m l fails t) =

@@ -14,7 +14,7 @@ use Rattle.round.proofs.Listing.{joined-entries}
 use Rattle.round.proofs.Actions.{at-start-entries}
 use Rattle.rules.specs.Schedulers.{continuing}
 use Rattle.rules.specs.Instants.{allAt, chained, unmoved}
-use Rattle.rules.specs.View.{view}
+use Rattle.rules.specs.Scheduled.{schedulerIn}
 use Rattle.rules.proofs.Actions.{status₃, actual₆, order-same, status-same, flag-cleared, suspended-same, ends-same}
 
 none-same : {A B : Type 0} (b : B) (l : List A) → map (λ x. b) l ≡ replicate (length l) b
@@ -23,8 +23,8 @@ none-same {B = B} b (x ∷ l) = ap (λ (m : List B). b ∷ m) (none-same b l)
 
 pub chains :
     (book : List ℕ) (s : State) (ms : List (ℕ × ℤ)) → CountsInRange book → Fits book (s .game) →
-    unmoved (chained (view s ms)) ≡ view (atStart (s .game)) ms
-unfolding chained view atStart
+    unmoved (chained (schedulerIn s ms)) ≡ schedulerIn (atStart (s .game)) ms
+unfolding chained schedulerIn atStart
 chains book s ms range f =
     let g = s .game in
     let joined = sym (joined-entries book g range f) in
@@ -34,7 +34,7 @@ chains book s ms range f =
     λ i.
     record {
       actual = actual i;
-      current = record { events = g .broadcast; terms = ends-same (g .routines) i; values = []; eoi = false; move = false };
+      current = record { signals = g .broadcast; terms = ends-same (g .routines) i; values = []; eoi = false; move = false };
       orders =
           record {
             toBroadcast = broadcast i;

@@ -1,13 +1,13 @@
 -- The rules derive nothing else: from one start, two derivations by rules 1 to 32 have the same status, instruction left and scheduler, and
--- a thread, an execution step or an instant by rules 33 to 38 the same log and end. By induction over both derivations, from starts that are
--- equal: where two rules are for one instruction, their conditions exclude each other, or they agree.
+-- a thread, an execution step or an instant by rules 33 to 38 the same log and end. By induction over both derivations, from starts that
+-- are equal: where two rules are for one instruction, their conditions exclude each other, or they agree.
 use Prim.Native.Nat.{ℕ, _≤_}
 use mathlib.Core.Path.{_≡_, refl}
 use mathlib.Core.List.{List, _∷_}
 use mathlib.Core.Logic.{inl, inr}
 use native.Mathlib.Omega.{arith}
 use Rattle.numbers.proofs.Sums.{adds-up-once}
-use Rattle.rules.specs.Instructions.{Status, TERM, Event, Call, Instruction, awaitN}
+use Rattle.rules.specs.Instructions.{Status, TERM, Signal, Call, Instruction, awaitN}
 use Rattle.rules.specs.Schedulers.{Scheduler, Called, writes, becomes, adds, takes}
 use Rattle.rules.specs.Rules.{⟨_&_⟩⟶[_]⟨_&_⟩, rule1, rule2, rule3, rule4, rule5, rule6, rule7, rule8, rule9, rule10, rule11, rule12}
 use Rattle.rules.specs.Rules.{rule13, rule14, rule15, rule16, rule17, rule18, rule18-again, rule19, rule20, rule21, rule22, rule23}
@@ -22,7 +22,7 @@ data Result (A B : Type 0) : Type 0 where
 
 -- a wait with no instant left terminates
 expired :
-    {p k : ℕ} {e : Event} {i : Instruction} {σ τ : Scheduler} {α : Status} →
+    {p k : ℕ} {e : Signal} {i : Instruction} {σ τ : Scheduler} {α : Status} →
     ⟨ awaitN p e k & σ ⟩⟶[ α ]⟨ i & τ ⟩ → k ≤ 0 →
     α ≡ TERM
 expired (rule25 x) h = refl

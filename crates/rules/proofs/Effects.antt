@@ -27,9 +27,9 @@ use Rattle.round.specs.State.{State, withGame}
 use Rattle.round.specs.Ticks.{effectOn}
 use Rattle.round.proofs.Entries.{pushed-entries}
 use Rattle.rules.specs.Instructions.{signal}
-use Rattle.rules.specs.Schedulers.{Stage, Scheduler, isAmong, statusOf, isNotStarted, moved, withEvent, withValue, put}
-use Rattle.rules.specs.Schedulers.{withMark, withOrders, withThreads, withStart, withStop, withSuspend, withResume}
-use Rattle.rules.specs.View.{view}
+use Rattle.rules.specs.Schedulers.{Stage, Scheduler, isAmong, statusOf, isNotStarted, moved, withSignal, withValue, put}
+use Rattle.rules.specs.Schedulers.{withMark, withOrders, withThreads, toStartPlus, toStopPlus, toSuspendPlus, toResumePlus}
+use Rattle.rules.specs.Scheduled.{schedulerIn}
 use Rattle.rules.proofs.Walks.{Marks, HasRoom}
 use Rattle.rules.proofs.Stages.{seen, not-started-view}
 use Rattle.rules.proofs.Lines.{entries-among}
@@ -53,29 +53,29 @@ starting l σ = ordered σ l (σ .orders .toStop) (σ .orders .toSuspend) (σ .o
 
 -- effects that change one field
 module _ (s : State) (ms : Marks) where
-  pub nothing-view : view (effectOn Nothing s) ms ≡ view s ms
+  pub nothing-view : schedulerIn (effectOn Nothing s) ms ≡ schedulerIn s ms
   unfolding effectOn
   nothing-view = refl
 
-  pub mark-view : (r : ℕ) (n : ℤ) → view (effectOn (Mark n) s) (ms ++ ((r, n) ∷ [])) ≡ withMark r n (view s ms)
-  unfolding effectOn view
+  pub mark-view : (r : ℕ) (n : ℤ) → schedulerIn (effectOn (Mark n) s) (ms ++ ((r, n) ∷ [])) ≡ withMark r n (schedulerIn s ms)
+  unfolding effectOn schedulerIn
   mark-view r n = refl
 
-  pub count-view : (c : ℕ) (v : ℤ) → view (effectOn (Put c v) s) ms ≡ put c v (view s ms)
-  unfolding effectOn view
+  pub count-view : (c : ℕ) (v : ℤ) → schedulerIn (effectOn (Put c v) s) ms ≡ put c v (schedulerIn s ms)
+  unfolding effectOn schedulerIn
   count-view c v = refl
 
-  pub add-view : (c : ℕ) (v : Sum) → view (effectOn (Add c v) s) ms ≡ put c (v .sum) (view s ms)
-  unfolding effectOn view
+  pub add-view : (c : ℕ) (v : Sum) → schedulerIn (effectOn (Add c v) s) ms ≡ put c (v .sum) (schedulerIn s ms)
+  unfolding effectOn schedulerIn
   add-view c v = refl
 
-  pub give-view : (e : ℕ) → view (effectOn (Give e) s) ms ≡ moved (withEvent (signal e) (view s ms))
-  unfolding effectOn view
+  pub give-view : (e : ℕ) → schedulerIn (effectOn (Give e) s) ms ≡ moved (withSignal (signal e) (schedulerIn s ms))
+  unfolding effectOn schedulerIn
   give-view e = refl
 
   pub give-number-view :
-      (e : ℕ) (v : ℤ) → view (effectOn (GiveNumber e v) s) ms ≡ withValue e v (moved (withEvent (signal e) (view s ms)))
-  unfolding effectOn view
+      (e : ℕ) (v : ℤ) → schedulerIn (effectOn (GiveNumber e v) s) ms ≡ withValue e v (moved (withSignal (signal e) (schedulerIn s ms)))
+  unfolding effectOn schedulerIn
   give-number-view e v = refl
 
 -- routine t of a state gives way to another one
@@ -95,11 +95,12 @@ module _ (s : State) (t : ℕ) (x : Routine) where
       (ms : Marks) {status : List Stage} {susp stops suspends resumes : List Bool} →
       map seen replaced ≡ status → map (λ x. x .suspended) replaced ≡ susp →
       map (λ x. x .stopping) replaced ≡ stops → map (λ x. x .suspending) replaced ≡ suspends → map (λ x. x .resuming) replaced ≡ resumes →
-      view (withGame s (withRoutine (s .game) t x)) ms
-      ≡ withThreads (ordered (view s ms) (entriesOf (s .game .starting)) stops suspends resumes) (record { status = status; susp = susp })
-  unfolding view
+      schedulerIn (withGame s (withRoutine (s .game) t x)) ms
+      ≡ withThreads (ordered (schedulerIn s ms) (entriesOf (s .game .starting)) stops suspends resumes)
+      (record { status = status; susp = susp })
+  unfolding schedulerIn
   routine-view ms a b c d e = λ i.
-      withThreads (ordered (view s ms) (entriesOf (s .game .starting)) (c i) (d i) (e i)) (record { status = a i; susp = b i })
+      withThreads (ordered (schedulerIn s ms) (entriesOf (s .game .starting)) (c i) (d i) (e i)) (record { status = a i; susp = b i })
 
 -- orders for routines
 module _ (s : State) (ms : Marks) (t : ℕ) where
@@ -110,23 +111,23 @@ module _ (s : State) (ms : Marks) (t : ℕ) where
     flags-view :
         {stops suspends resumes : List Bool} → map (λ x. x .stopping) (replaced s t flagged) ≡ stops →
         map (λ x. x .suspending) (replaced s t flagged) ≡ suspends → map (λ x. x .resuming) (replaced s t flagged) ≡ resumes →
-        view (withGame s (withRoutine (s .game) t flagged)) ms
-        ≡ ordered (view s ms) (entriesOf (s .game .starting)) stops suspends resumes
-    unfolding view
+        schedulerIn (withGame s (withRoutine (s .game) t flagged)) ms
+        ≡ ordered (schedulerIn s ms) (entriesOf (s .game .starting)) stops suspends resumes
+    unfolding schedulerIn
     flags-view = routine-view s t flagged ms (keeps s t flagged seen refl) (keeps s t flagged (λ x. x .suspended) refl)
 
-  pub stop-view : view (effectOn (Stop t) s) ms ≡ withStop t (view s ms)
-  unfolding effectOn view
+  pub stop-view : schedulerIn (effectOn (Stop t) s) ms ≡ toStopPlus t (schedulerIn s ms)
+  unfolding effectOn schedulerIn
   stop-view =
       flags-view _ _ _ (changes s t _ (λ x. x .stopping)) (keeps s t _ (λ x. x .suspending) refl) (keeps s t _ (λ x. x .resuming) refl)
 
-  pub suspend-view : view (effectOn (Suspend t) s) ms ≡ withSuspend t (view s ms)
-  unfolding effectOn view
+  pub suspend-view : schedulerIn (effectOn (Suspend t) s) ms ≡ toSuspendPlus t (schedulerIn s ms)
+  unfolding effectOn schedulerIn
   suspend-view =
       flags-view _ _ _ (keeps s t _ (λ x. x .stopping) refl) (changes s t _ (λ x. x .suspending)) (keeps s t _ (λ x. x .resuming) refl)
 
-  pub resume-view : view (effectOn (Resume t) s) ms ≡ withResume t (view s ms)
-  unfolding effectOn view
+  pub resume-view : schedulerIn (effectOn (Resume t) s) ms ≡ toResumePlus t (schedulerIn s ms)
+  unfolding effectOn schedulerIn
   resume-view =
       flags-view _ _ _ (keeps s t _ (λ x. x .stopping) refl) (keeps s t _ (λ x. x .suspending) refl) (changes s t _ (λ x. x .resuming))
 
@@ -134,23 +135,23 @@ module _ (s : State) (ms : Marks) (t : ℕ) where
 joins-view :
     (s : State) (ms : Marks) (t : ℕ) (new : Bool) →
     (new ≡ true → entriesOf (pushed (s .game .starting) t) ≡ entriesOf (s .game .starting) ++ (t ∷ [])) →
-    view (withGame s (withStarting (s .game) (if new then pushed (s .game .starting) t else s .game .starting))) ms
-    ≡ (if new then starting (view s ms .orders .toStart ++ (t ∷ [])) (view s ms) else view s ms)
-unfolding view
-joins-view s ms t true e = ap (λ l. starting l (view s ms)) (e refl)
+    schedulerIn (withGame s (withStarting (s .game) (if new then pushed (s .game .starting) t else s .game .starting))) ms
+    ≡ (if new then starting (schedulerIn s ms .orders .toStart ++ (t ∷ [])) (schedulerIn s ms) else schedulerIn s ms)
+unfolding schedulerIn
+joins-view s ms t true e = ap (λ l. starting l (schedulerIn s ms)) (e refl)
 joins-view s ms t false e = refl
 
 pub start-view :
     {routines : ℕ} (s : State) (ms : Marks) (t : ℕ) → HasRoom routines s → t < routines → routines ≤ mostRoutines →
-    view (effectOn (Start t) s) ms ≡ withStart t (view s ms)
+    schedulerIn (effectOn (Start t) s) ms ≡ toStartPlus t (schedulerIn s ms)
 unfolding effectOn game.withStart
 start-view s ms t space below few =
     let l = s .game .starting in
     let right = space .starting in
     let unstarted = eqb (routineAt (s .game) t .stage) notStarted in
     let new = unstarted && not (isIn l t) in
-    let same : (isNotStarted (statusOf (view s ms) t) && not (isAmong t (view s ms .orders .toStart))) ≡ new =
-    unfold view in rw (not-started-view s ms t, entries-among l right (space .items) t)
+    let same : (isNotStarted (statusOf (schedulerIn s ms) t) && not (isAmong t (schedulerIn s ms .orders .toStart))) ≡ new =
+    unfold schedulerIn in rw (not-started-view s ms t, entries-among l right (space .items) t)
     in
     rw same (
     joins-view s ms t new (λ e.

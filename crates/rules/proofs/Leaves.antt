@@ -20,7 +20,7 @@ use Rattle.kinds.specs.declared.Step.the-variants as step
 use Rattle.kinds.specs.declared.Counts.{Counts}
 use Rattle.forms.specs.declared.Form.{Form}
 use Rattle.forms.specs.declared.Form.the-variants.{Plain, Pausing}
-use Rattle.kinds.specs.Steps.{stepAt}
+use Rattle.kinds.specs.Steps.{stepAt, stepsIn}
 use Rattle.forms.specs.Forms.{formOf}
 use Rattle.game.specs.Game.{counterAt}
 use Rattle.blocks.specs.Blocks.{stands}
@@ -32,8 +32,7 @@ use Rattle.round.specs.declared.Effect.the-variants.{Nothing, Put, Add, Give, G
 use Rattle.round.specs.declared.Act.{Act}
 use Rattle.round.specs.declared.Act.the-variants.{Goes, Halts}
 use Rattle.round.specs.State.{State, Thing, signal, end, number, numberAt, isThere}
-use Rattle.round.specs.Jumps.{sizeOf}
-use Rattle.round.specs.Ticks.{Tick, telling, fresh, begunAt, countAt, onward, tries, restsFor, waitsFor, reads, tickOf, effectOn}
+use Rattle.round.specs.Ticks.{Tick, tickWith, fresh, begunAt, countAt, onward, tries, restsFor, waitsFor, reads, tickOf, effectOn}
 use Rattle.round.specs.Answers.{marksIn}
 use Rattle.round.proofs.Leads.{formAt}
 use Rattle.round.proofs.Forms.{leaf-there}
@@ -44,7 +43,7 @@ use Rattle.rules.specs.Rules.{⟨_&_⟩⟶[_]⟨_&_⟩, rule1, rule11, r
 use Rattle.rules.specs.Rules.{rule28, rule30, rule31, rule32}
 use Rattle.rules.specs.Residual.{instruction}
 use Rattle.rules.specs.Positions.{pausedAt}
-use Rattle.rules.specs.View.{view}
+use Rattle.rules.specs.Scheduled.{schedulerIn}
 use Rattle.rules.proofs.Walks.{Marks, HasRoom, HaltsAs, restsAs, missesAs, continuesAs}
 use Rattle.rules.proofs.Effects.{nothing-view, mark-view, count-view, add-view, give-view, give-number-view, start-view, stop-view}
 use Rattle.rules.proofs.Effects.{suspend-view, resume-view}
@@ -63,12 +62,12 @@ no-leaf (inr e) p q = clash refl (q e)
 pub data Halted (size r : ℕ) (k : Kind) (x : Position) (s : State) (ms : Marks) (h : Ending) (y : Position) : Type 0 where
   stays :
       {α : Status} →
-      ⟨ instruction r x k & view s ms ⟩⟶[ α ]⟨ instruction r y k & view s ms ⟩ →
+      ⟨ instruction r x k & schedulerIn s ms ⟩⟶[ α ]⟨ instruction r y k & schedulerIn s ms ⟩ →
       HaltsAs size y h α → y .place ≡ x .place →
       Halted size r k x s ms h y
   leaves :
       {α : Status} →
-      ⟨ instruction r x k & view s ms ⟩⟶[ α ]⟨ nothing & view s ms ⟩ →
+      ⟨ instruction r x k & schedulerIn s ms ⟩⟶[ α ]⟨ nothing & schedulerIn s ms ⟩ →
       HaltsAs size y h α → y ≡ fresh (suc (x .place)) →
       Halted size r k x s ms h y
 
@@ -78,18 +77,18 @@ module _ (counts : Counts) (r : ℕ) (steps : List ℕ) where
   ActByRule k x s ms (Goes q e) new =
       (q ≡ suc (x .place))
       × (HasRoom (counts .routines) s →
-      ⟨ instruction r x k & view s ms ⟩⟶[ TERM ]⟨ nothing & view (effectOn e s) (ms ++ new) ⟩)
-  ActByRule k x s ms (Halts h y) new = Halted (sizeOf steps) r k x s ms h y
+      ⟨ instruction r x k & schedulerIn s ms ⟩⟶[ TERM ]⟨ nothing & schedulerIn (effectOn e s) (ms ++ new) ⟩)
+  ActByRule k x s ms (Halts h y) new = Halted (stepsIn steps) r k x s ms h y
 
   abbrev pub ByRule : Kind → Position → State → Marks → Tick → Type 0
-  ByRule k x s ms t = ActByRule k x s ms (t .act) (marksIn (t .told))
+  ByRule k x s ms t = ActByRule k x s ms (t .act) (marksIn (t .events))
 
   module _ (k : Kind) (x : Position) (s : State) (ms : Marks) where
     -- the turn goes on behind an effect, with no mark
     changes :
         (e : Effect) {σ : Scheduler} →
-        (HasRoom (counts .routines) s → view (effectOn e s) ms ≡ σ) →
-        ⟨ instruction r x k & view s ms ⟩⟶[ TERM ]⟨ nothing & σ ⟩ →
+        (HasRoom (counts .routines) s → schedulerIn (effectOn e s) ms ≡ σ) →
+        ⟨ instruction r x k & schedulerIn s ms ⟩⟶[ TERM ]⟨ nothing & σ ⟩ →
         ActByRule k x s ms (onward r steps x s e) []
     changes e same h = (add-one (x .place), λ f. rw (append-nil, same f) h)
 
@@ -100,8 +99,8 @@ module _ (counts : Counts) (r : ℕ) (steps : List ℕ) where
     attempts :
         (t : Thing) (e : Effect) (y : Position) →
         (isThere s t ≡ true → ActByRule k x s ms (onward r steps x s e) []) →
-        (isThere s t ≡ false → s .eoi ≡ true → Halted (sizeOf steps) r k x s ms Missed y) →
-        (isThere s t ≡ false → s .eoi ≡ false → Halted (sizeOf steps) r k x s ms Continued x) →
+        (isThere s t ≡ false → s .eoi ≡ true → Halted (stepsIn steps) r k x s ms Missed y) →
+        (isThere s t ≡ false → s .eoi ≡ false → Halted (stepsIn steps) r k x s ms Continued x) →
         ByRule k x s ms (tries r steps x s t e y)
     unfolding marksIn
     attempts t e y found rests again =
@@ -136,7 +135,7 @@ module _ (counts : Counts) (r : ℕ) (steps : List ℕ) where
         (λ e o. stays (w (goes-on e) .again e o) (cont-term, continuesAs) refl))
 
   module _ (x : Position) (s : State) (ms : Marks) where
-    rests-for : (n : ℕ) → ByRule (kind.RestFor n) x s ms (telling (restsFor r steps x s (countAt x n)) [])
+    rests-for : (n : ℕ) → ByRule (kind.RestFor n) x s ms (tickWith (restsFor r steps x s (countAt x n)) [])
     unfolding marksIn
     rests-for n =
         by-test (λ (a : Act). ActByRule (kind.RestFor n) x s ms a []) (eqb (countAt x n) 0)
@@ -144,12 +143,12 @@ module _ (counts : Counts) (r : ℕ) (steps : List ℕ) where
         (λ h. stays (rule24 (omega (arith, eqb-false (countAt x n) 0 h))) (coop-term, restsAs _ refl) refl)
 
     -- the state behind a reading
-    taken : (e c k : ℕ) → view (effectOn (Put c (numberAt s e k)) s) ms ≡ returned e c k (view s ms)
-    unfolding view
+    taken : (e c k : ℕ) → schedulerIn (effectOn (Put c (numberAt s e k)) s) ms ≡ returned e c k (schedulerIn s ms)
+    unfolding schedulerIn
     taken e c k = count-view s ms c (numberAt s e k) ∙ rw (values-numbers e (s .numbers))
 
     reads-number : (e c k : ℕ) → ByRule (kind.Read e c k) x s ms (reads r steps x s e c k)
-    unfolding view
+    unfolding schedulerIn
     reads-number e c k =
         attempts (kind.Read e c k) x s ms (number e k) (Put c (numberAt s e k)) (fresh (x .place + 1))
         (λ h. changes (kind.Read e c k) x s ms (Put c (numberAt s e k)) (λ f. taken e c k) (rule30 (number-given s ms e k h)))
@@ -160,7 +159,7 @@ module _ (counts : Counts) (r : ℕ) (steps : List ℕ) where
   leaf-by-rule :
       (k : Kind) → Leaf (formOf k) → FieldsRight counts k → counts .routines ≤ mostRoutines →
       (x : Position) (s : State) (ms : Marks) → ByRule k x s ms (tickOf r steps x s k)
-  unfolding tickOf view marksIn
+  unfolding tickOf schedulerIn marksIn
   leaf-by-rule (kind.Mark n) l b few x s ms = (add-one (x .place), λ f. rw mark-view (rule1 writes))
   leaf-by-rule (kind.Set c n) l b few x s ms = changes (kind.Set c n) x s ms (Put c n) (λ f. count-view s ms c n) (rule1 becomes)
   leaf-by-rule (kind.Add c n) l b few x s ms =

@@ -15,7 +15,7 @@ pub mod Turns
 pub mod Routines
 pub mod Actions
 pub mod Chaining
-pub mod Told
+pub mod Taken
 pub mod Seen
 pub mod Left
 pub mod Passes

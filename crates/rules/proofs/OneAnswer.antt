@@ -15,7 +15,7 @@ use Rattle.rules.specs.Instructions.{Instruction}
 use Rattle.rules.specs.Schedulers.{Scheduler, withCurrent}
 use Rattle.rules.specs.Instants.{Execution, Log, Round}
 use Rattle.rules.specs.Positions.{lastOf, LeftBy, unmoved, ended, paused}
-use Rattle.rules.specs.View.{nothingPresent, schedulerOf}
+use Rattle.rules.specs.Scheduled.{nothingPresent, schedulerOf}
 use Rattle.rules.specs.Claims.{ByTheRules}
 use Rattle.rules.proofs.Walks.{Marks}
 use Rattle.rules.proofs.OneParse.{threads-same}

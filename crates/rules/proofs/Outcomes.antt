@@ -6,23 +6,23 @@ use mathlib.Core.List.{List, [], _++_, append-nil}
 use native.Mathlib.Omega.{arith}
 use Rattle.kinds.specs.declared.Kind.{Kind}
 use Rattle.kinds.specs.declared.Counts.{Counts}
+use Rattle.kinds.specs.Steps.{stepsIn}
 use Rattle.round.specs.declared.Ending.{Ending}
 use Rattle.round.specs.declared.Position.{Position}
 use Rattle.round.specs.declared.Effect.the-variants.{Nothing}
 use Rattle.round.specs.declared.Act.the-variants.{Goes}
 use Rattle.round.specs.State.{State}
-use Rattle.round.specs.Jumps.{sizeOf}
-use Rattle.round.specs.Ticks.{Tick, telling, tick, fresh, effectOn}
+use Rattle.round.specs.Ticks.{Tick, tickWith, tick, fresh, effectOn}
 use Rattle.round.specs.Answers.{marksIn}
 use Rattle.rules.specs.Instructions.{Status, TERM, Instruction, nothing}
 use Rattle.rules.specs.Rules.{⟨_&_⟩⟶[_]⟨_&_⟩}
 use Rattle.rules.specs.Residual.{instruction, _⇝_, same}
-use Rattle.rules.specs.View.{view}
+use Rattle.rules.specs.Scheduled.{schedulerIn}
 use Rattle.rules.proofs.Walks.{Marks, HaltsAs, Ends, halts, goes}
 use Rattle.rules.proofs.Leaves.{Halted, stays, leaves, ByRule}
 
 abbrev pub Run : Instruction → State → Marks → Status → Instruction → State → Marks → Type 0
-Run i s ms α t v vs = ⟨ i & view s ms ⟩⟶[ α ]⟨ t & view v vs ⟩
+Run i s ms α t v vs = ⟨ i & schedulerIn s ms ⟩⟶[ α ]⟨ t & schedulerIn v vs ⟩
 
 -- whatever i does, i′ does
 abbrev pub RunsAs : Instruction → State → Marks → Instruction → State → Marks → Type 0
@@ -33,11 +33,11 @@ module _ (counts : Counts) (r : ℕ) (steps : List ℕ) (h : Ending) (y : Positi
   pub data OfStep (i : Instruction) (left : Position → Instruction) (p e n : ℕ) (s : State) (ms : Marks) : Type 0 where
     stops :
         {t : Instruction} {α : Status} →
-        Run i s ms α t u us → HaltsAs (sizeOf steps) y h α → t ⇝ left y → p ≤ y .place → y .place < e →
+        Run i s ms α t u us → HaltsAs (stepsIn steps) y h α → t ⇝ left y → p ≤ y .place → y .place < e →
         OfStep i left p e n s ms
     rests :
         {t : Instruction} {α : Status} →
-        Run i s ms α t u us → HaltsAs (sizeOf steps) y h α → t ⇝ nothing → y ≡ fresh e →
+        Run i s ms α t u us → HaltsAs (stepsIn steps) y h α → t ⇝ nothing → y ≡ fresh e →
         OfStep i left p e n s ms
     over :
         (m : ℕ) (v : State) (vs : Marks) →
@@ -48,7 +48,7 @@ module _ (counts : Counts) (r : ℕ) (steps : List ℕ) (h : Ending) (y : Positi
   pub data OfBlock (i : Instruction) (left : Position → Instruction) (p e n : ℕ) (s : State) (ms : Marks) : Type 0 where
     within :
         {t : Instruction} {α : Status} →
-        Run i s ms α t u us → HaltsAs (sizeOf steps) y h α → t ⇝ left y → p ≤ y .place → y .place ≤ e →
+        Run i s ms α t u us → HaltsAs (stepsIn steps) y h α → t ⇝ left y → p ≤ y .place → y .place ≤ e →
         OfBlock i left p e n s ms
     passes :
         (m : ℕ) (x : Position) (v : State) (vs : Marks) →
@@ -59,16 +59,16 @@ module _ {counts : Counts} {r : ℕ} {steps : List ℕ} {h : Ending} {y : Positi
   -- a step that changes nothing, and leads to q
   pub onward :
       {n q : ℕ} {x : Position} {s : State} {ms : Marks} →
-      Ends counts r steps h y u us n x s ms → tick counts r steps x s ≡ telling (Goes q Nothing) [] →
+      Ends counts r steps h y u us n x s ms → tick counts r steps x s ≡ tickWith (Goes q Nothing) [] →
       (m : ℕ) × (m < n) × Ends counts r steps h y u us m (fresh q) s ms
   unfolding effectOn marksIn
   onward (halts e) g =
       let same = ap (λ (a : Tick). a .act) (sym e ∙ g) in
       let z : _≡_ {A = ℕ} 0 1 = cc in
       absurd (omega arith)
-  onward {q = q} {ms = ms} (goes {n = n} {q = p} {e = c} {told = told} f e t) g =
+  onward {q = q} {ms = ms} (goes {n = n} {q = p} {e = c} {events = events} f e t) g =
       let same = ap (λ (a : Tick). a .act) (sym e ∙ g) in
-      let none : told ≡ [] = ap (λ (a : Tick). a .told) (sym e ∙ g) in
+      let none : events ≡ [] = ap (λ (a : Tick). a .events) (sym e ∙ g) in
       let a : p ≡ q = cc in
       let b : c ≡ Nothing = cc in
       (n, omega arith, rw (a, b, none, append-nil ms) at t)
@@ -76,7 +76,7 @@ module _ {counts : Counts} {r : ℕ} {steps : List ℕ} {h : Ending} {y : Positi
   -- a step that holds no block, and goes by its rule
   leaf-halts :
       {p n : ℕ} {k : Kind} {x : Position} →
-      x .place ≡ p → Halted (sizeOf steps) r k x u us h y →
+      x .place ≡ p → Halted (stepsIn steps) r k x u us h y →
       OfStep counts r steps h y u us (instruction r x k) (λ z. instruction r z k) p (suc p) n u us
   leaf-halts l (stays run on m) = stops run on same (omega arith) (omega arith)
   leaf-halts l (leaves run on m) = rests run on same (m ∙ ap (λ (q : ℕ). fresh (suc q)) l)
@@ -86,9 +86,9 @@ module _ {counts : Counts} {r : ℕ} {steps : List ℕ} {h : Ending} {y : Positi
       x .place ≡ p → ByRule counts r steps k x s ms (tick counts r steps x s) → Ends counts r steps h y u us n x s ms →
       OfStep counts r steps h y u us (instruction r x k) (λ z. instruction r z k) p (suc p) n s ms
   leaf-ends k {x} l by (halts e) = leaf-halts l (subst (λ (a : Tick). ByRule counts r steps k x u us a) e by)
-  leaf-ends k {x} {s} {ms} l by (goes {n = n} {e = c} {told = told} f e t) =
+  leaf-ends k {x} {s} {ms} l by (goes {n = n} {e = c} {events = events} f e t) =
       let rule = subst (λ (a : Tick). ByRule counts r steps k x s ms a) e by in
-      over n (effectOn c s) (ms ++ marksIn told) (rule .1 f) (omega arith) (rw (rule .0, l) at t)
+      over n (effectOn c s) (ms ++ marksIn events) (rule .1 f) (omega arith) (rw (rule .0, l) at t)
 
   -- for another instruction that runs as i does, in a turn at least as long
   pub block-as :

@@ -16,6 +16,7 @@ use lib.ListN.{length}
 use Rattle.numbers.specs.Choice.{if_then_else_}
 use Rattle.numbers.specs.Counting.{All}
 use Rattle.numbers.proofs.Tests.{clash}
+use Rattle.kinds.specs.Steps.{stepsIn}
 use Rattle.layout.specs.Layout.{routinesOf}
 use Rattle.directory.specs.Directory.{routineSteps}
 use Rattle.book.specs.Accepted.{Accepted}
@@ -29,8 +30,8 @@ use Rattle.round.specs.declared.Position.{Position}
 use Rattle.round.specs.declared.Turn.the-variants.{Took}
 use Rattle.round.specs.State.{State}
 use Rattle.round.specs.Actions.{positionOf}
-use Rattle.round.specs.Jumps.{sizeOf}
-use Rattle.round.specs.Rounds.{Ticks, mostTicks, afterTurn, Played, notTaken, taken, allDone, again, ticksOf, turn, pass, instant}
+use Rattle.round.specs.Rounds.{Ticks, mostTicks, afterTurn, PlayedTurns, notTaken, taken, allDone, forNextPass, ticksOf, turn, pass}
+use Rattle.round.specs.Rounds.{instant}
 use Rattle.round.specs.Answers.{marksIn}
 use Rattle.round.specs.claims.Enough.{RoundEnds}
 use Rattle.round.specs.claims.Sound.{Sound}
@@ -41,7 +42,7 @@ use Rattle.round.proofs.Parsed.{size-same}
 use Rattle.round.proofs.Lasting.{routine-in-time}
 use Rattle.round.proofs.Coming.{turn-untouched}
 use Rattle.round.proofs.AfterTurn.{going-parts, position-after, after-going, turn-by, turn-taken}
-use Rattle.round.proofs.TurnSound.{turn-sound, again-sound}
+use Rattle.round.proofs.TurnSound.{turn-sound, next-pass-sound}
 use Rattle.round.proofs.Turned.{turn-turned}
 use Rattle.round.proofs.After.{pass-keeps}
 use Rattle.round.proofs.Waiting.{done-append}
@@ -51,13 +52,13 @@ use Rattle.rules.specs.Instants.{runs, Execution, skipped, executed, isF
 use Rattle.rules.specs.Instants.{next, ExecutionStep, rule35, rule36, Log, rule37, rule38}
 use Rattle.rules.specs.Positions.{lastIn, lastOf}
 use Rattle.rules.specs.Residual.{residual, _⇝_}
-use Rattle.rules.specs.View.{view}
+use Rattle.rules.specs.Scheduled.{schedulerIn}
 use Rattle.rules.specs.Claims.{Stands, TurnRule, PassRule, InstantRule}
 use Rattle.rules.proofs.Naming.{given}
 use Rattle.rules.proofs.Walks.{Marks, Shows, endsAs, restsAs, missesAs, continuesAs}
-use Rattle.rules.proofs.Told.{marks-then, ends-of}
+use Rattle.rules.proofs.Taken.{marks-then, ends-of}
 use Rattle.rules.proofs.Stages.{stage-continues, stage-pauses, stage-seen}
-use Rattle.rules.proofs.Seen.{suspended-seen, after-seen, actual-seen, again-seen}
+use Rattle.rules.proofs.Seen.{suspended-seen, after-seen, actual-seen, next-pass-seen}
 use Rattle.rules.proofs.Routines.{routine-by-rules}
 use Rattle.rules.proofs.Left.{Behind, shows-behind, behind-then}
 
@@ -114,21 +115,21 @@ module _ (book : List ℕ) (a : Accepted book) where
                 m
             | no n ↦
                 let other : after q ≡ positionOf (routineAt (s .game) q) =
-                sym (ap (λ (d : Played). positionOf (routineAt (d .state .game) q)) (turn-taken book r s going))
+                sym (ap (λ (d : PlayedTurns). positionOf (routineAt (d .state .game) q)) (turn-taken book r s going))
                 ∙ turn-turned book a r s l sound .standings .others q n .position in
                 rw (ne-eqb q r n, other) (stand q m)
           ]
 
       module _ (ms : Marks) where
         -- a rule gives the turn d, and leaves routine r where its thread's execution says
-        abbrev ByRule : Played → Type 0
+        abbrev ByRule : PlayedTurns → Type 0
         ByRule d =
             (run′ : ℕ → Instruction) × (e : Execution) × TurnRule book a run s ms run′ r d e × Behind book r e (s .game) (d .state .game)
 
         turn-over-rule : isGoing s r ≡ false → ByRule (notTaken s)
         unfolding allDone marksIn
         turn-over-rule h =
-            let why : (has (view s ms .threads .susp) r ≡ true) ⊎ (statusOf (view s ms) r ≢ continuing) =
+            let why : (has (schedulerIn s ms .threads .susp) r ≡ true) ⊎ (statusOf (schedulerIn s ms) r ≢ continuing) =
             elim (not-going (x .suspended) (eqb (x .stage) game.continuing) h) [
               | inl e ↦ inl (suspended-seen s ms r ∙ e)
               | inr e ↦ inr (λ c. stage-pauses (x .stage) e (sym (stage-seen s ms r) ∙ c))
@@ -140,7 +141,7 @@ module _ (book : List ℕ) (a : Accepted book) where
         turn-taken-rule going =
             let time = routine-in-time book a r l (positionOf x) s in
             let (n, ends) = ends-of book a r (mostTicks steps) (positionOf x) s time sound ms in
-            let inside : x .place ≤ sizeOf steps = omega (arith, sound .fits .placesInRange r l, size-same book a r l) in
+            let inside : x .place ≤ stepsIn steps = omega (arith, sound .fits .placesInRange r l, size-same book a r l) in
             let to = routine-by-rules book a r l n (positionOf x) s ms (run r) inside (stand r l) ends in
             let (unsuspended, stage) = going-parts (x .suspended) (x .stage) going in
             let thread =
@@ -149,7 +150,7 @@ module _ (book : List ℕ) (a : Accepted book) where
               runs run r (to .after),
               executed (to .status),
               record {
-                derived = rw (after-seen r t (ms ++ marksIn (t .told)) (to .shows)) thread;
+                derived = rw (after-seen r t (ms ++ marksIn (t .trace)) (to .shows)) thread;
                 finished = done-turn (to .shows);
                 stands = stands-after (to .after) going (to .leaves);
               },
@@ -180,7 +181,7 @@ module _ (book : List ℕ) (a : Accepted book) where
   turns-by-rules :
       (rs : List ℕ) → All (λ r. r < R) rs → (run : ℕ → Instruction) (s : State) (ms : Marks) → Stands book a run (s .game) →
       Sound book s → let d = pass book rs s in
-      (to : ℕ → Instruction) × (l : StepLog) × InTurn rs run (view s ms) l to (view (d .state) (ms ++ marksIn (d .told)))
+      (to : ℕ → Instruction) × (l : StepLog) × InTurn rs run (schedulerIn s ms) l to (schedulerIn (d .state) (ms ++ marksIn (d .trace)))
       × (allFinished l ≡ allDone (d .turns)) × Stands book a to (d .state .game) × AllBehind l (s .game) (d .state .game)
   unfolding pass lastIn allFinished
   turns-by-rules [] b run s ms stand sound =
@@ -190,7 +191,7 @@ module _ (book : List ℕ) (a : Accepted book) where
       let sound-first = turn-sound book a r s (b .0) sound in
       let (to, e, rule, own) = turn-by-rules r (b .0) run s stand sound ms in
       let (last, l, others, done, stand-last, behind) =
-      turns-by-rules rs (b .1) to (first .state) (ms ++ marksIn (first .told)) (rule .stands) sound-first in (
+      turns-by-rules rs (b .1) to (first .state) (ms ++ marksIn (first .trace)) (rule .stands) sound-first in (
         last,
         (r, e) ∷ l,
         rw (← marks-then) (next (rule .derived) others),
@@ -230,13 +231,13 @@ module _ (book : List ℕ) (a : Accepted book) where
   instant-by-rules (suc n) run s ms stand sound (inr (undone, ends)) =
       let rs = listed s in
       let first = pass book rs s in
-      let u = again (first .state) in
+      let u = forNextPass (first .state) in
       let (sound-last, kept) = pass-keeps book a rs (listed-below sound) s sound in
       let same : listed u ≡ rs = ap (λ l. entriesOf l) (kept .listed) in
-      let sound-again = again-sound (first .state) sound-last in
+      let sound-again = next-pass-sound (first .state) sound-last in
       let (to, l, rule, behind) = pass-by-rules run s ms stand sound in
-      let flags = again-seen (first .state) (ms ++ marksIn (first .told)) in
-      given (rw same at (instant-by-rules n to u (ms ++ marksIn (first .told)) (rule .stands) sound-again (rw same ends)))
+      let flags = next-pass-seen (first .state) (ms ++ marksIn (first .trace)) in
+      given (rw same at (instant-by-rules n to u (ms ++ marksIn (first .trace)) (rule .stands) sound-again (rw same ends)))
       (λ (last, log, others, later).
       rw undone (
         last,

@@ -15,7 +15,7 @@ use Rattle.game.specs.Game.{routineAt}
 use Rattle.fitting.specs.Fits.{Fits}
 use Rattle.round.specs.State.{State}
 use Rattle.round.specs.Actions.{positionOf, atStart}
-use Rattle.round.specs.Rounds.{mostPasses, round, back}
+use Rattle.round.specs.Rounds.{mostPasses, round, stateAfter}
 use Rattle.round.specs.Answers.{marksIn}
 use Rattle.round.proofs.Actions.{at-start-positions}
 use Rattle.round.proofs.StartSound.{at-start-sound, listed-among}
@@ -27,7 +27,7 @@ use Rattle.round.proofs.Demand.{none-going}
 use Rattle.rules.specs.Instructions.{Instruction}
 use Rattle.rules.specs.Instants.{Log, Round}
 use Rattle.rules.specs.Positions.{lastOf, LeftBy}
-use Rattle.rules.specs.View.{view}
+use Rattle.rules.specs.Scheduled.{schedulerIn}
 use Rattle.rules.specs.Claims.{Gives, Stands}
 use Rattle.rules.proofs.Walks.{Marks}
 use Rattle.rules.proofs.Determined.{instant-determined}
@@ -41,9 +41,9 @@ module _ (book : List ℕ) (a : Accepted book) where
   at-start-stands run g stand r l = rw (at-start-positions g r) (stand r l)
 
   -- a listed routine takes no turn behind a round, and one that is not listed is not in stage 1
-  none-turns : (g : Game) (f : Fits book g) (r : ℕ) → r < routinesOf book → takesTurn (routineAt (back book g .game) r) ≡ false
+  none-turns : (g : Game) (f : Fits book g) (r : ℕ) → r < routinesOf book → takesTurn (routineAt (stateAfter book g .game) r) ≡ false
   none-turns g f r l =
-      let x = routineAt (back book g .game) r in
+      let x = routineAt (stateAfter book g .game) r in
       let (sound, kept) = round-keeps book a g f in
       by-flag (takesTurn x) (λ on.
       let listed = sound .fits .listedStages r l (inl (going-parts (x .suspended) (x .stage) on .1)) in
@@ -54,7 +54,7 @@ module _ (book : List ℕ) (a : Accepted book) where
       (run : ℕ → Instruction) (s : State) (ms : Marks) (f : Fits book (s .game)) → Stands book a run (s .game) →
       let d = round book (s .game) in
       (run′ : ℕ → Instruction) × (log : Log)
-      × Gives run (view s ms) log run′ (view (d .played .state) (ms ++ marksIn (d .played .told)))
+      × Gives run (schedulerIn s ms) log run′ (schedulerIn (d .played .state) (ms ++ marksIn (d .played .trace)))
       × (d .passes ≡ length log) × Stands book a run′ (d .played .state .game)
       × ((r : ℕ) → r < routinesOf book →
       LeftBy (stepCount book r) (positionOf (routineAt (s .game) r)) (lastOf r log) (positionOf (routineAt (d .played .state .game) r)))
@@ -65,7 +65,8 @@ module _ (book : List ℕ) (a : Accepted book) where
       let (to, log, rule, behind) =
       instant-by-rules book a mostPasses run (atStart g) ms (at-start-stands run g stand) (at-start-sound book g a f)
       (enough book a g f .passes) in
-      let derived : Round log run (view s ms) to (view (round book g .played .state) (ms ++ marksIn (round book g .played .told))) =
+      let derived : Round log run (schedulerIn s ms) to
+      (schedulerIn (round book g .played .state) (ms ++ marksIn (round book g .played .trace))) =
       rw (chains book s ms range f) (rule .derived) in (
         to,
         log,

@@ -22,7 +22,7 @@ use Rattle.orders.proofs.Stores.{same-at}
 use Rattle.round.specs.Actions.{positionOf}
 use Rattle.round.proofs.Entries.{SizedRight, entries-length}
 use Rattle.round.proofs.Listing.{lists-right}
-use Rattle.rules.specs.View.{stageOf, schedulerOf}
+use Rattle.rules.specs.Scheduled.{stageOf, schedulerOf}
 
 -- a claim on each stage
 each-stage : (P : ℕ → Type 0) → P 0 → P 1 → P 2 → P 3 → P 4 → (k : ℕ) → k ≤ stopped → P k

@@ -9,35 +9,35 @@ use Rattle.game.specs.Game.{blank, routineAt, withRoutine}
 use Rattle.round.specs.declared.Ending.{Ending}
 use Rattle.round.specs.declared.Position.{Position}
 use Rattle.round.specs.State.{State, withGame}
-use Rattle.round.specs.Rounds.{Ticks, behindTurn, withEnd, afterTurn, again}
+use Rattle.round.specs.Rounds.{Ticks, behindTurn, withEnd, afterTurn, forNextPass}
 use Rattle.rules.specs.Instructions.{Status}
 use Rattle.rules.specs.Schedulers.{has}
 use Rattle.rules.specs.Instants.{withStatus, withTermination}
 use Rattle.rules.specs.Instants as paper
-use Rattle.rules.specs.View.{view}
+use Rattle.rules.specs.Scheduled.{schedulerIn}
 use Rattle.rules.proofs.Walks.{Marks, Shows, endsAs, restsAs, missesAs, continuesAs}
 use Rattle.rules.proofs.Stages.{seen, stage-after}
 use Rattle.rules.proofs.Effects.{keeps, changes, routine-view}
 
 module _ (s : State) (ms : Marks) where
-  pub actual-seen : view s ms .actual ≡ entriesOf (s .game .listed)
-  unfolding view
+  pub actual-seen : schedulerIn s ms .actual ≡ entriesOf (s .game .listed)
+  unfolding schedulerIn
   actual-seen = refl
 
   -- the flags for another pass
-  pub again-seen : view (again s) ms ≡ paper.again (view s ms)
-  unfolding view
-  again-seen = refl
+  pub next-pass-seen : schedulerIn (forNextPass s) ms ≡ paper.forNextStep (schedulerIn s ms)
+  unfolding schedulerIn
+  next-pass-seen = refl
 
 module _ (s : State) (ms : Marks) (r : ℕ) where
-  pub suspended-seen : has (view s ms .threads .susp) r ≡ routineAt (s .game) r .suspended
-  unfolding view
+  pub suspended-seen : has (schedulerIn s ms .threads .susp) r ≡ routineAt (s .game) r .suspended
+  unfolding schedulerIn
   suspended-seen = List·getD-map (λ x. x .suspended) (s .game .routines) r blank
 
   behind-seen :
       {size : ℕ} {h : Ending} {y : Position} {α : Status} → Shows size y h α →
-      view (withGame s (withRoutine (s .game) r (behindTurn (routineAt (s .game) r) h y))) ms ≡ withStatus r α (view s ms)
-  unfolding view
+      schedulerIn (withGame s (withRoutine (s .game) r (behindTurn (routineAt (s .game) r) h y))) ms ≡ withStatus r α (schedulerIn s ms)
+  unfolding schedulerIn
   behind-seen {h = h} {y = y} how =
       let x = behindTurn (routineAt (s .game) r) h y in
       routine-view s r x ms (changes s r x seen ∙ ap (set (map seen (s .game .routines)) r) (stage-after how))
@@ -46,8 +46,8 @@ module _ (s : State) (ms : Marks) (r : ℕ) where
 
   end-seen :
       {size : ℕ} {h : Ending} {y : Position} {α : Status} → Shows size y h α →
-      view (withEnd h r s) ms ≡ withTermination α r (view s ms)
-  unfolding view
+      schedulerIn (withEnd h r s) ms ≡ withTermination α r (schedulerIn s ms)
+  unfolding schedulerIn
   end-seen (endsAs e) = refl
   end-seen (restsAs w e) = refl
   end-seen (missesAs w e) = refl
@@ -55,5 +55,5 @@ module _ (s : State) (ms : Marks) (r : ℕ) where
 
 pub after-seen :
     {size : ℕ} {α : Status} (r : ℕ) (t : Ticks) (ms : Marks) → Shows size (t .position) (t .ending) α →
-    view (afterTurn r t) ms ≡ withTermination α r (withStatus r α (view (t .state) ms))
+    schedulerIn (afterTurn r t) ms ≡ withTermination α r (withStatus r α (schedulerIn (t .state) ms))
 after-seen {α = α} r t ms how = end-seen _ ms r how ∙ ap (λ σ. withTermination α r σ) (behind-seen (t .state) ms r how)

@@ -18,7 +18,7 @@ use Rattle.rules.specs.Instructions.{Status}
 use Rattle.rules.specs.Schedulers.{Stage, stageBy, statusOf, isNotStarted}
 use Rattle.rules.specs.Schedulers as paper
 use Rattle.rules.specs.Instants.{isUnderWay, isTerminated}
-use Rattle.rules.specs.View.{stageOf, view}
+use Rattle.rules.specs.Scheduled.{stageOf, schedulerIn}
 use Rattle.rules.proofs.Walks.{Marks, Shows, endsAs, restsAs, missesAs, continuesAs}
 
 -- a claim on stages 0 to 3 and on all others
@@ -68,12 +68,12 @@ ended-stage : (k : ℕ) → paper.hasEnded (stageOf k) ≡ hasEnded k
 ended-stage = by-stage (λ k. paper.hasEnded (stageOf k) ≡ hasEnded k) refl refl refl refl (λ k a b c d. rw (a, b, c, d))
 
 module _ (s : State) (ms : Marks) (t : ℕ) where
-  pub stage-seen : statusOf (view s ms) t ≡ seen (routineAt (s .game) t)
-  unfolding view
+  pub stage-seen : statusOf (schedulerIn s ms) t ≡ seen (routineAt (s .game) t)
+  unfolding schedulerIn
   stage-seen = List·getD-map seen (s .game .routines) t blank
 
-  pub not-started-view : isNotStarted (statusOf (view s ms) t) ≡ eqb (routineAt (s .game) t .stage) notStarted
+  pub not-started-view : isNotStarted (statusOf (schedulerIn s ms) t) ≡ eqb (routineAt (s .game) t .stage) notStarted
   not-started-view = ap isNotStarted stage-seen ∙ not-started-stage (routineAt (s .game) t .stage)
 
-  pub ended-view : paper.hasEnded (statusOf (view s ms) t) ≡ hasEnded (routineAt (s .game) t .stage)
+  pub ended-view : paper.hasEnded (statusOf (schedulerIn s ms) t) ≡ hasEnded (routineAt (s .game) t .stage)
   ended-view = ap paper.hasEnded stage-seen ∙ ended-stage (routineAt (s .game) t .stage)

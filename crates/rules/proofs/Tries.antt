@@ -12,12 +12,12 @@ use lib.IntN.{ℤ}
 use Rattle.numbers.proofs.Tests.{neither, first-or-second}
 use Rattle.round.specs.State.{State, end, number, numbersWith, isEndThere, isThere}
 use Rattle.round.specs.State as thing
-use Rattle.rules.specs.Instructions.{Pause, misses, missesFor, Status, TERM, COOP, CONT, Event, signal, term, Instruction, nothing}
+use Rattle.rules.specs.Instructions.{Pause, misses, missesFor, Status, TERM, COOP, CONT, Signal, signal, term, Instruction, nothing}
 use Rattle.rules.specs.Instructions.{await, join, awaitN, joinN}
 use Rattle.rules.specs.Schedulers.{isPresent, valuesFrom, valuesOf, statusOf, hasEnded}
 use Rattle.rules.specs.Rules.{Present, Absent, HasEnded, NotEnded, ⟨_&_⟩⟶[_]⟨_&_⟩, rule14, rule15, rule16, rule17, rule18}
 use Rattle.rules.specs.Rules.{rule18-again, rule25, rule26, rule27, rule28, rule29, rule29-again}
-use Rattle.rules.specs.View.{view}
+use Rattle.rules.specs.Scheduled.{schedulerIn}
 use Rattle.rules.proofs.Walks.{Marks}
 use Rattle.rules.proofs.Stages.{ended-view}
 
@@ -33,36 +33,36 @@ values-numbers e [] = refl
 values-numbers e ((f, v) ∷ l) = rw (values-numbers e l)
 
 module _ (s : State) (ms : Marks) where
-  signal-there : (e : ℕ) → isThere s (thing.signal e) ≡ isPresent (signal e) (view s ms)
-  unfolding isThere view
+  signal-there : (e : ℕ) → isThere s (thing.signal e) ≡ isPresent (signal e) (schedulerIn s ms)
+  unfolding isThere schedulerIn
   signal-there e = refl
 
-  end-there : (t : ℕ) → isThere s (end t) ≡ (hasEnded (statusOf (view s ms) t) || isPresent (term t) (view s ms))
+  end-there : (t : ℕ) → isThere s (end t) ≡ (hasEnded (statusOf (schedulerIn s ms) t) || isPresent (term t) (schedulerIn s ms))
   unfolding isThere isEndThere
-  end-there t = rw (ended-view s ms t) (unfold view in refl)
+  end-there t = rw (ended-view s ms t) (unfold schedulerIn in refl)
 
   end-found :
       (t : ℕ) → isThere s (end t) ≡ true →
-      HasEnded t (view s ms) ⊎ (NotEnded t (view s ms) × Present (term t) (view s ms))
+      HasEnded t (schedulerIn s ms) ⊎ (NotEnded t (schedulerIn s ms) × Present (term t) (schedulerIn s ms))
   end-found t h =
-      first-or-second (hasEnded (statusOf (view s ms) t)) (isPresent (term t) (view s ms)) (sym (end-there t) ∙ h)
+      first-or-second (hasEnded (statusOf (schedulerIn s ms) t)) (isPresent (term t) (schedulerIn s ms)) (sym (end-there t) ∙ h)
 
-  end-missing : (t : ℕ) → isThere s (end t) ≡ false → NotEnded t (view s ms) × Absent (term t) (view s ms)
-  end-missing t h = neither (hasEnded (statusOf (view s ms) t)) (isPresent (term t) (view s ms)) (sym (end-there t) ∙ h)
+  end-missing : (t : ℕ) → isThere s (end t) ≡ false → NotEnded t (schedulerIn s ms) × Absent (term t) (schedulerIn s ms)
+  end-missing t h = neither (hasEnded (statusOf (schedulerIn s ms) t)) (isPresent (term t) (schedulerIn s ms)) (sym (end-there t) ∙ h)
 
-  number-there : (e k : ℕ) → isThere s (number e k) ≡ leb k (length (valuesOf (view s ms) e))
-  unfolding isThere view
+  number-there : (e k : ℕ) → isThere s (number e k) ≡ leb k (length (valuesOf (schedulerIn s ms) e))
+  unfolding isThere schedulerIn
   number-there e k = rw (values-numbers e (s .numbers))
 
-  pub number-given : (e k : ℕ) → isThere s (number e k) ≡ true → k ≤ length (valuesOf (view s ms) e)
+  pub number-given : (e k : ℕ) → isThere s (number e k) ≡ true → k ≤ length (valuesOf (schedulerIn s ms) e)
   number-given e k h = leb-true _ _ (sym (number-there e k) ∙ h)
 
-  pub number-missing : (e k : ℕ) → isThere s (number e k) ≡ false → length (valuesOf (view s ms) e) < k
+  pub number-missing : (e k : ℕ) → isThere s (number e k) ≡ false → length (valuesOf (schedulerIn s ms) e) < k
   number-missing e k h = leb-false _ _ (sym (number-there e k) ∙ h)
 
   -- a rule that leaves the scheduler as it is
   abbrev pub Idle : Instruction → Status → Instruction → Type 0
-  Idle i α j = ⟨ i & view s ms ⟩⟶[ α ]⟨ j & view s ms ⟩
+  Idle i α j = ⟨ i & schedulerIn s ms ⟩⟶[ α ]⟨ j & schedulerIn s ms ⟩
 
   -- what a try comes to where what it asks for is there, is missing when the round is being closed, and is missing before
   pub record Tried (there : Bool) (i later : Instruction) (w : Pause) : Type 0 where
@@ -70,23 +70,23 @@ module _ (s : State) (ms : Marks) where
     pub rests : there ≡ false → s .eoi ≡ true → Idle i (COOP w) later
     pub again : there ≡ false → s .eoi ≡ false → Idle i CONT i
 
-  tried-await : (p : ℕ) (e : Event) → Tried (isPresent e (view s ms)) (await p e) (await p e) (misses p)
-  unfolding view
+  tried-await : (p : ℕ) (e : Signal) → Tried (isPresent e (schedulerIn s ms)) (await p e) (await p e) (misses p)
+  unfolding schedulerIn
   tried-await p e = record { found = λ p. rule14 p; rests = λ p o. rule16 p o; again = λ p o. rule15 p o }
 
   tried-awaitN :
-      (p : ℕ) (e : Event) (k : ℕ) → 0 < k →
-      Tried (isPresent e (view s ms)) (awaitN p e k) (awaitN p e (k - 1)) (missesFor p (k - 1))
-  unfolding view
+      (p : ℕ) (e : Signal) (k : ℕ) → 0 < k →
+      Tried (isPresent e (schedulerIn s ms)) (awaitN p e k) (awaitN p e (k - 1)) (missesFor p (k - 1))
+  unfolding schedulerIn
   tried-awaitN p e k h = record { found = λ p. rule25 (inl p); rests = λ p o. rule27 p h o; again = λ p o. rule26 p h o }
 
   -- a join of t, by what an await of term(t) comes to
   tried-end :
-      (t : ℕ) {i later j after : Instruction} {w : Pause} → Tried (isPresent (term t) (view s ms)) i later w →
-      (HasEnded t (view s ms) → Idle j TERM nothing) →
-      (NotEnded t (view s ms) → Idle i TERM nothing → Idle j TERM nothing) →
-      (NotEnded t (view s ms) → Idle i (COOP w) later → Idle j (COOP w) after) →
-      (NotEnded t (view s ms) → Idle i CONT i → Idle j CONT j) →
+      (t : ℕ) {i later j after : Instruction} {w : Pause} → Tried (isPresent (term t) (schedulerIn s ms)) i later w →
+      (HasEnded t (schedulerIn s ms) → Idle j TERM nothing) →
+      (NotEnded t (schedulerIn s ms) → Idle i TERM nothing → Idle j TERM nothing) →
+      (NotEnded t (schedulerIn s ms) → Idle i (COOP w) later → Idle j (COOP w) after) →
+      (NotEnded t (schedulerIn s ms) → Idle i CONT i → Idle j CONT j) →
       Tried (isThere s (end t)) j after w
   tried-end t w over found rests again =
       record {

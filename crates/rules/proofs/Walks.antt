@@ -14,8 +14,8 @@ use Rattle.round.specs.declared.Ending.the-variants.{Ended, Rested, Missed, Con
 use Rattle.round.specs.declared.Position.{Position}
 use Rattle.round.specs.declared.Effect.{Effect}
 use Rattle.round.specs.declared.Act.the-variants.{Goes, Halts}
-use Rattle.round.specs.State.{State, Happening}
-use Rattle.round.specs.Ticks.{telling, tick, fresh, effectOn}
+use Rattle.round.specs.State.{State, Event}
+use Rattle.round.specs.Ticks.{tickWith, tick, fresh, effectOn}
 use Rattle.round.specs.Answers.{marksIn}
 use Rattle.rules.specs.Instructions.{Pause, Status, TERM, COOP, CONT}
 use Rattle.rules.specs.Positions.{pausedAt}
@@ -44,9 +44,9 @@ module _ (counts : Counts) (r : ℕ) (steps : List ℕ) where
   -- at most n steps from position x, state s and marks ms on end with h at position y, in state u with marks us
   pub data Ends (h : Ending) (y : Position) (u : State) (us : Marks) : ℕ → Position → State → Marks → Type 0 where
     halts :
-        {n : ℕ} {x : Position} {told : List Happening} →
-        tick counts r steps x u ≡ telling (Halts h y) told → Ends h y u us (suc n) x u us
+        {n : ℕ} {x : Position} {events : List Event} →
+        tick counts r steps x u ≡ tickWith (Halts h y) events → Ends h y u us (suc n) x u us
     goes :
-        {n q : ℕ} {x : Position} {s : State} {ms : Marks} {e : Effect} {told : List Happening} →
-        HasRoom (counts .routines) s → tick counts r steps x s ≡ telling (Goes q e) told →
-        Ends h y u us n (fresh q) (effectOn e s) (ms ++ marksIn told) → Ends h y u us (suc n) x s ms
+        {n q : ℕ} {x : Position} {s : State} {ms : Marks} {e : Effect} {events : List Event} →
+        HasRoom (counts .routines) s → tick counts r steps x s ≡ tickWith (Goes q e) events →
+        Ends h y u us n (fresh q) (effectOn e s) (ms ++ marksIn events) → Ends h y u us (suc n) x s ms

@@ -16,13 +16,13 @@ use Rattle.fitting.specs.Fits.{Fits}
 use Rattle.round.specs.State.{State}
 use Rattle.round.specs.Actions.{positionOf}
 use Rattle.round.specs.Answers.{numbersPerMark, Answer, marksIn}
-use Rattle.round.specs.Rounds.{Played, allDone, Round as Passes}
+use Rattle.round.specs.Rounds.{PlayedTurns, allDone, PlayedRound}
 use Rattle.rules.specs.Instructions.{Instruction, nothing}
 use Rattle.rules.specs.Schedulers.{Scheduler, withCurrent}
 use Rattle.rules.specs.Instants.{Execution, isFinished, Thread, StepLog, allFinished, ExecutionStep, Log, Instant, Round}
 use Rattle.rules.specs.Positions.{lastOf, LeftBy}
 use Rattle.rules.specs.Residual.{residual, _⇝_}
-use Rattle.rules.specs.View.{nothingPresent, schedulerOf, view}
+use Rattle.rules.specs.Scheduled.{nothingPresent, schedulerOf, schedulerIn}
 
 -- from the instructions that the threads are to run, and a scheduler: a round with this log can be derived, and it is the only one
 pub record Gives (run : ℕ → Instruction) (σ : Scheduler) (log : Log) (run′ : ℕ → Instruction) (σ′ : Scheduler) : Type 0 where
@@ -41,21 +41,21 @@ module _ (book : List ℕ) (a : Accepted book) where
   -- of the state behind them, with their marks behind the others, and to threads run′ that stand for its game.
   module _ (run : ℕ → Instruction) (s : State) (marks : List (ℕ × ℤ)) (run′ : ℕ → Instruction) where
     -- A turn of routine r: rules 33 and 34, where "b is a boolean which is true if execution is finished for the current instant".
-    pub record TurnRule (r : ℕ) (d : Played) (x : Execution) : Type 0 where
-      pub derived : Thread r run (view s marks) x run′ (view (d .state) (marks ++ marksIn (d .told)))
+    pub record TurnRule (r : ℕ) (d : PlayedTurns) (x : Execution) : Type 0 where
+      pub derived : Thread r run (schedulerIn s marks) x run′ (schedulerIn (d .state) (marks ++ marksIn (d .trace)))
       pub finished : isFinished x ≡ allDone (d .turns)
       pub stands : Stands run′ (d .state .game)
 
     -- "pass = one scheduler execution step (rules 35 and 36)"
-    pub record PassRule (d : Played) (l : StepLog) : Type 0 where
-      pub derived : ExecutionStep run (view s marks) l run′ (view (d .state) (marks ++ marksIn (d .told)))
+    pub record PassRule (d : PlayedTurns) (l : StepLog) : Type 0 where
+      pub derived : ExecutionStep run (schedulerIn s marks) l run′ (schedulerIn (d .state) (marks ++ marksIn (d .trace)))
       pub finished : allFinished l ≡ allDone (d .turns)
       pub stands : Stands run′ (d .state .game)
 
     -- The passes of a round: rules 37 and 38. "A sequence of execution steps leading to a situation where all threads are finished for the
     -- current instant defines a complete instant"; it has as many steps as there are passes.
-    pub record InstantRule (d : Passes) (log : Log) : Type 0 where
-      pub derived : Instant log run (view s marks) run′ (view (d .played .state) (marks ++ marksIn (d .played .told)))
+    pub record InstantRule (d : PlayedRound) (log : Log) : Type 0 where
+      pub derived : Instant log run (schedulerIn s marks) run′ (schedulerIn (d .played .state) (marks ++ marksIn (d .played .trace)))
       pub passes : d .passes ≡ length log
       pub stands : Stands run′ (d .played .state .game)
 

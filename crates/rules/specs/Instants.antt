@@ -9,7 +9,7 @@ use lib.ListN.{set}
 use Rattle.numbers.specs.Choice.{if_then_else_}
 use Rattle.rules.specs.Instructions.{Status, TERM, COOP, CONT, term, Instruction}
 use Rattle.rules.specs.Schedulers.{Stage, notStarted, continuing, rested, ended, stopped, stageBy, Scheduler, withActual}
-use Rattle.rules.specs.Schedulers.{withCurrent, withOrders, withThreads, has, statusOf, moved, withEvent}
+use Rattle.rules.specs.Schedulers.{withCurrent, withOrders, withThreads, has, statusOf, moved, withSignal}
 use Rattle.rules.specs.Rules.{⟨_&_⟩⟶[_]⟨_&_⟩}
 
 -- t[run := inst], for the instructions of all threads
@@ -22,7 +22,7 @@ withStatus t α σ = withThreads σ (record { status = set (σ .threads .status)
 
 -- sched″ of rule 34: sched′[events += term(t)][move := true] if α = TERM, and sched′ otherwise
 abbrev pub withTermination : Status → ℕ → Scheduler → Scheduler
-withTermination TERM t σ = moved (withEvent (term t) σ)
+withTermination TERM t σ = moved (withSignal (term t) σ)
 withTermination (COOP w) t σ = σ
 withTermination CONT t σ = σ
 
@@ -77,11 +77,11 @@ pub data ExecutionStep : (ℕ → Instruction) → Scheduler → StepLog → (�
 
 -- sched″ of rule 38: move = false; eoi = true if sched′.move = false, and eoi = false otherwise. Document 01: "Section 3.2 speaks of a
 -- third cycle for two routines that signal each other; rules 36 and 38 need two."
-abbrev pub again : Scheduler → Scheduler
-again σ =
+abbrev pub forNextStep : Scheduler → Scheduler
+forNextStep σ =
     withCurrent σ (
     let c = σ .current in
-    record { events = c .events; terms = c .terms; values = c .values; eoi = not (c .move); move = false }
+    record { signals = c .signals; terms = c .terms; values = c .values; eoi = not (c .move); move = false }
     )
 
 -- the log of an instant, one of each of its execution steps
@@ -96,7 +96,7 @@ pub data Instant : Log → (ℕ → Instruction) → Scheduler → (ℕ → Inst
       Instant (l ∷ []) run σ run′ σ′
   rule38 :
       {l : StepLog} {log : Log} {run run′ run″ : ℕ → Instruction} {σ σ′ σ″ : Scheduler} →
-      ExecutionStep run σ l run′ σ′ → allFinished l ≡ false → Instant log run′ (again σ′) run″ σ″ →
+      ExecutionStep run σ l run′ σ′ → allFinished l ≡ false → Instant log run′ (forNextStep σ′) run″ σ″ →
       Instant (l ∷ log) run σ run″ σ″
 
 -- those of some threads that pass a test
@@ -139,7 +139,7 @@ abbrev pub action2 : Scheduler → Scheduler
 action2 σ =
     withCurrent σ (
     let c = σ .current in
-    record { events = σ .orders .toBroadcast; terms = noFlags (σ .threads .susp); values = c .values; eoi = c .eoi; move = c .move }
+    record { signals = σ .orders .toBroadcast; terms = noFlags (σ .threads .susp); values = c .values; eoi = c .eoi; move = c .move }
     )
 
 -- Action 3: "remove elements of to_stop from actual; moreover, for each t ∈ to_stop, add event term(t) to events"; document 01: "Stopping
@@ -152,7 +152,7 @@ action3 σ =
     let others = only (λ t. not (has toStop t)) (σ .actual) in
     withCurrent (withStatuses (withActual σ others) (allAt stopped stops (σ .threads .status))) (
     let c = σ .current in
-    record { events = c .events; terms = zipWith _||_ (c .terms) toStop; values = c .values; eoi = c .eoi; move = c .move }
+    record { signals = c .signals; terms = zipWith _||_ (c .terms) toStop; values = c .values; eoi = c .eoi; move = c .move }
     )
 
 -- Action 4: "for each t ∈ to_resume, set t.susp to false"
@@ -182,7 +182,7 @@ abbrev pub action7 : Scheduler → Scheduler
 action7 σ =
     withCurrent σ (
     let c = σ .current in
-    record { events = c .events; terms = c .terms; values = c .values; eoi = false; move = c .move }
+    record { signals = c .signals; terms = c .terms; values = c .values; eoi = false; move = c .move }
     )
 
 -- Action 8: "reset to_start, to_broadcast, to_stop, to_resume, to_suspend, and values to empty"
@@ -190,7 +190,7 @@ abbrev pub action8 : Scheduler → Scheduler
 action8 σ =
     let o = σ .orders in
     let c = σ .current in
-    withOrders (withCurrent σ (record { events = c .events; terms = c .terms; values = []; eoi = c .eoi; move = c .move })) (
+    withOrders (withCurrent σ (record { signals = c .signals; terms = c .terms; values = []; eoi = c .eoi; move = c .move })) (
     record {
       toBroadcast = noFlags (o .toBroadcast);
       toStart = [];
@@ -211,7 +211,7 @@ abbrev pub unmoved : Scheduler → Scheduler
 unmoved σ =
     withCurrent σ (
     let c = σ .current in
-    record { events = c .events; terms = c .terms; values = c .values; eoi = c .eoi; move = false }
+    record { signals = c .signals; terms = c .terms; values = c .values; eoi = c .eoi; move = false }
     )
 
 -- "round = one chaining step and then one instant"

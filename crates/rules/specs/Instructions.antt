@@ -19,10 +19,10 @@ pub data Status : Type 0 where
   COOP : Pause → Status
   CONT : Status
 
--- an event of the program, or term(t), "used to signal the total termination of t"
-pub data Event : Type 0 where
-  signal : ℕ → Event
-  term : ℕ → Event
+-- the paper's event: a signal of the program, or term(t), "used to signal the total termination of t"
+pub data Signal : Type 0 where
+  signal : ℕ → Signal
+  term : ℕ → Signal
 
 -- "Calls are means to change the environment": document 01's ops 0 to 3. A mark names the routine that leaves it.
 pub data Call : Type 0 where
@@ -51,7 +51,7 @@ pub data Instruction : Type 0 where
   ifElse : Expression → Instruction → Instruction → Instruction
   -- synchronizing instructions; the value generated is a counter's content
   cooperate : ℕ → Instruction
-  await : ℕ → Event → Instruction
+  await : ℕ → Signal → Instruction
   generate : ℕ → Instruction
   generateValue : ℕ → ℕ → Instruction
   join : ℕ → ℕ → Instruction
@@ -62,7 +62,7 @@ pub data Instruction : Type 0 where
   resume : ℕ → Instruction
   -- timed instructions; a number of 0 or less is 0
   cooperateN : ℕ → ℕ → Instruction
-  awaitN : ℕ → Event → ℕ → Instruction
+  awaitN : ℕ → Signal → ℕ → Instruction
   joinN : ℕ → ℕ → ℕ → Instruction
   -- the event, the counter that takes the value, k; the thread, which the paper names too, is the one that runs it
   getValue : ℕ → ℕ → ℕ → ℕ → Instruction

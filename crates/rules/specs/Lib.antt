@@ -3,7 +3,7 @@ pub mod Schedulers
 pub mod Rules
 pub mod Instants
 pub mod Residual
-pub mod View
+pub mod Scheduled
 pub mod Positions
 pub mod Claims
 pub mod Examples

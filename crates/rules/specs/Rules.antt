@@ -6,21 +6,21 @@ use mathlib.Core.Bool.{true, false}
 use mathlib.Core.Logic.{_≢_, _⊎_}
 use lib.ListN.{length}
 use Rattle.numbers.specs.Relations.{Holds}
-use Rattle.rules.specs.Instructions.{rests, restsFor, misses, missesFor, unread, Status, TERM, COOP, CONT, Event, signal, term}
+use Rattle.rules.specs.Instructions.{rests, restsFor, misses, missesFor, unread, Status, TERM, COOP, CONT, Signal, signal, term}
 use Rattle.rules.specs.Instructions.{Call, Expression, Instruction, nothing, call}
 use Rattle.rules.specs.Instructions.{_then_, while, whileInst, ifElse, cooperate, await, generate, generateValue, join, create, stop}
 use Rattle.rules.specs.Instructions.{suspend, resume, cooperateN, awaitN, joinN, getValue}
-use Rattle.rules.specs.Schedulers.{Scheduler, statusOf, hasEnded, isPresent, moved, withEvent, withValue, valuesOf, content}
-use Rattle.rules.specs.Schedulers.{Called, returned, withStart, withStop, withSuspend, withResume}
+use Rattle.rules.specs.Schedulers.{Scheduler, statusOf, hasEnded, isPresent, moved, withSignal, withValue, valuesOf, content}
+use Rattle.rules.specs.Schedulers.{Called, returned, toStartPlus, toStopPlus, toSuspendPlus, toResumePlus}
 
 -- the expression is true in the environment; it changes nothing there
 abbrev pub IsTrue : Expression → Scheduler → Type 0
 IsTrue x σ = Holds (x .relation) (content σ (x .counter)) (x .number)
 
-abbrev pub Present : Event → Scheduler → Type 0
+abbrev pub Present : Signal → Scheduler → Type 0
 Present e σ = isPresent e σ ≡ true
 
-abbrev pub Absent : Event → Scheduler → Type 0
+abbrev pub Absent : Signal → Scheduler → Type 0
 Absent e σ = isPresent e σ ≡ false
 
 -- t.status = TERM, and t.status ≠ TERM, as a join asks
@@ -70,18 +70,18 @@ pub data ⟨_&_⟩⟶[_]⟨_&_⟩ : Instruction → Scheduler → Status → Ins
   -- 4.5 Cooperate
   rule11 : {p : ℕ} {σ : Scheduler} → ⟨ cooperate p & σ ⟩⟶[ COOP (rests p) ]⟨ nothing & σ ⟩
   -- 4.6 Generate
-  rule12 : {e : ℕ} {σ : Scheduler} → ⟨ generate e & σ ⟩⟶[ TERM ]⟨ nothing & moved (withEvent (signal e) σ) ⟩
+  rule12 : {e : ℕ} {σ : Scheduler} → ⟨ generate e & σ ⟩⟶[ TERM ]⟨ nothing & moved (withSignal (signal e) σ) ⟩
   rule13 :
       {e c : ℕ} {σ : Scheduler} →
-      ⟨ generateValue e c & σ ⟩⟶[ TERM ]⟨ nothing & withValue e (content σ c) (moved (withEvent (signal e) σ)) ⟩
+      ⟨ generateValue e c & σ ⟩⟶[ TERM ]⟨ nothing & withValue e (content σ c) (moved (withSignal (signal e) σ)) ⟩
   -- 4.7 Await
-  rule14 : {p : ℕ} {e : Event} {σ : Scheduler} → Present e σ → ⟨ await p e & σ ⟩⟶[ TERM ]⟨ nothing & σ ⟩
+  rule14 : {p : ℕ} {e : Signal} {σ : Scheduler} → Present e σ → ⟨ await p e & σ ⟩⟶[ TERM ]⟨ nothing & σ ⟩
   rule15 :
-      {p : ℕ} {e : Event} {σ : Scheduler} →
+      {p : ℕ} {e : Signal} {σ : Scheduler} →
       Absent e σ → σ .current .eoi ≡ false →
       ⟨ await p e & σ ⟩⟶[ CONT ]⟨ await p e & σ ⟩
   rule16 :
-      {p : ℕ} {e : Event} {σ : Scheduler} →
+      {p : ℕ} {e : Signal} {σ : Scheduler} →
       Absent e σ → σ .current .eoi ≡ true →
       ⟨ await p e & σ ⟩⟶[ COOP (misses p) ]⟨ await p e & σ ⟩
   -- 4.8 Join. Rule 18 is in two parts, since document 01 reads it otherwise where the wait goes on: "A join left waiting asks again at
@@ -98,21 +98,21 @@ pub data ⟨_&_⟩⟶[_]⟨_&_⟩ : Instruction → Scheduler → Status → Ins
       ⟨ join p t & σ ⟩⟶[ α ]⟨ join p t & σ′ ⟩
   -- 4.9 Create, 4.10 Stop, 4.11 Suspend, 4.12 Resume. Document 01 on rule 19: "A start of a routine that isn't in stage 0, or is already to
   -- start, adds nothing."
-  rule19 : {t : ℕ} {σ : Scheduler} → ⟨ create t & σ ⟩⟶[ TERM ]⟨ nothing & withStart t σ ⟩
-  rule20 : {t : ℕ} {σ : Scheduler} → ⟨ stop t & σ ⟩⟶[ TERM ]⟨ nothing & withStop t σ ⟩
-  rule21 : {t : ℕ} {σ : Scheduler} → ⟨ suspend t & σ ⟩⟶[ TERM ]⟨ nothing & withSuspend t σ ⟩
-  rule22 : {t : ℕ} {σ : Scheduler} → ⟨ resume t & σ ⟩⟶[ TERM ]⟨ nothing & withResume t σ ⟩
+  rule19 : {t : ℕ} {σ : Scheduler} → ⟨ create t & σ ⟩⟶[ TERM ]⟨ nothing & toStartPlus t σ ⟩
+  rule20 : {t : ℕ} {σ : Scheduler} → ⟨ stop t & σ ⟩⟶[ TERM ]⟨ nothing & toStopPlus t σ ⟩
+  rule21 : {t : ℕ} {σ : Scheduler} → ⟨ suspend t & σ ⟩⟶[ TERM ]⟨ nothing & toSuspendPlus t σ ⟩
+  rule22 : {t : ℕ} {σ : Scheduler} → ⟨ resume t & σ ⟩⟶[ TERM ]⟨ nothing & toResumePlus t σ ⟩
   -- 4.13 Cooperate_n
   rule23 : {p k : ℕ} {σ : Scheduler} → k ≤ 0 → ⟨ cooperateN p k & σ ⟩⟶[ TERM ]⟨ nothing & σ ⟩
   rule24 : {p k : ℕ} {σ : Scheduler} → 0 < k → ⟨ cooperateN p k & σ ⟩⟶[ COOP (restsFor p (k - 1)) ]⟨ cooperateN p (k - 1) & σ ⟩
   -- 4.14 Await_n
-  rule25 : {p k : ℕ} {e : Event} {σ : Scheduler} → Present e σ ⊎ (k ≤ 0) → ⟨ awaitN p e k & σ ⟩⟶[ TERM ]⟨ nothing & σ ⟩
+  rule25 : {p k : ℕ} {e : Signal} {σ : Scheduler} → Present e σ ⊎ (k ≤ 0) → ⟨ awaitN p e k & σ ⟩⟶[ TERM ]⟨ nothing & σ ⟩
   rule26 :
-      {p k : ℕ} {e : Event} {σ : Scheduler} →
+      {p k : ℕ} {e : Signal} {σ : Scheduler} →
       Absent e σ → 0 < k → σ .current .eoi ≡ false →
       ⟨ awaitN p e k & σ ⟩⟶[ CONT ]⟨ awaitN p e k & σ ⟩
   rule27 :
-      {p k : ℕ} {e : Event} {σ : Scheduler} →
+      {p k : ℕ} {e : Signal} {σ : Scheduler} →
       Absent e σ → 0 < k → σ .current .eoi ≡ true →
       ⟨ awaitN p e k & σ ⟩⟶[ COOP (missesFor p (k - 1)) ]⟨ awaitN p e (k - 1) & σ ⟩
   -- 4.15 Join_n. Rule 29 is read as rule 18 is.

@@ -8,7 +8,7 @@ use lib.ListN.{getD, set}
 use lib.IntN.{ℤ, pos}
 use Rattle.numbers.specs.Choice.{if_then_else_}
 use Rattle.numbers.specs.Sums.{AddsUp}
-use Rattle.rules.specs.Instructions.{Status, TERM, COOP, CONT, Event, signal, term, Call, mark, set as set-to, add, take}
+use Rattle.rules.specs.Instructions.{Status, TERM, COOP, CONT, Signal, signal, term, Call, mark, set as set-to, add, take}
 
 -- t.status, as document 01 has it: "stage (0 not started, 1 continuing, 2 rested, 3 ended, 4 stopped)"
 pub data Stage : Type 0 where
@@ -27,7 +27,7 @@ pub record Threads : Type 0 where
 
 -- what the instant has: the generated events, with term(t) for each thread t apart; the values, each behind its event; the flags
 pub record Current : Type 0 where
-  pub events : List Bool
+  pub signals : List Bool
   pub terms : List Bool
   pub values : List (ℕ × ℤ)
   pub eoi : Bool
@@ -100,8 +100,8 @@ isNotStarted ended = false
 isNotStarted stopped = false
 
 -- event ∈ sched.events
-abbrev pub isPresent : Event → Scheduler → Bool
-isPresent (signal e) σ = has (σ .current .events) e
+abbrev pub isPresent : Signal → Scheduler → Bool
+isPresent (signal e) σ = has (σ .current .signals) e
 isPresent (term t) σ = has (σ .current .terms) t
 
 -- sched[move := true]
@@ -109,20 +109,20 @@ abbrev pub moved : Scheduler → Scheduler
 moved σ =
     withCurrent σ (
     let c = σ .current in
-    record { events = c .events; terms = c .terms; values = c .values; eoi = c .eoi; move = true }
+    record { signals = c .signals; terms = c .terms; values = c .values; eoi = c .eoi; move = true }
     )
 
 -- sched[events += event]
-abbrev pub withEvent : Event → Scheduler → Scheduler
-withEvent (signal e) σ =
+abbrev pub withSignal : Signal → Scheduler → Scheduler
+withSignal (signal e) σ =
     withCurrent σ (
     let c = σ .current in
-    record { events = plus (c .events) e; terms = c .terms; values = c .values; eoi = c .eoi; move = c .move }
+    record { signals = plus (c .signals) e; terms = c .terms; values = c .values; eoi = c .eoi; move = c .move }
     )
-withEvent (term t) σ =
+withSignal (term t) σ =
     withCurrent σ (
     let c = σ .current in
-    record { events = c .events; terms = plus (c .terms) t; values = c .values; eoi = c .eoi; move = c .move }
+    record { signals = c .signals; terms = plus (c .terms) t; values = c .values; eoi = c .eoi; move = c .move }
     )
 
 -- sched[values(event) += v]
@@ -130,7 +130,7 @@ abbrev pub withValue : ℕ → ℤ → Scheduler → Scheduler
 withValue e v σ =
     withCurrent σ (
     let c = σ .current in
-    record { events = c .events; terms = c .terms; values = c .values ++ ((e, v) ∷ []); eoi = c .eoi; move = c .move }
+    record { signals = c .signals; terms = c .terms; values = c .values ++ ((e, v) ∷ []); eoi = c .eoi; move = c .move }
     )
 
 -- sched.values(event)
@@ -168,8 +168,8 @@ abbrev pub returned : ℕ → ℕ → ℕ → Scheduler → Scheduler
 returned e c k σ = put c (getD (valuesOf σ e) (k - 1) (pos 0)) σ
 
 -- sched[to_start += t], unless t was started or is there already
-abbrev pub withStart : ℕ → Scheduler → Scheduler
-withStart t σ =
+abbrev pub toStartPlus : ℕ → Scheduler → Scheduler
+toStartPlus t σ =
     let o = σ .orders in
     if isNotStarted (statusOf σ t) && not (isAmong t (o .toStart))
     then
@@ -185,8 +185,8 @@ withStart t σ =
     else σ
 
 -- sched[to_stop += t]
-abbrev pub withStop : ℕ → Scheduler → Scheduler
-withStop t σ =
+abbrev pub toStopPlus : ℕ → Scheduler → Scheduler
+toStopPlus t σ =
     withOrders σ (
     let o = σ .orders in
     record {
@@ -199,8 +199,8 @@ withStop t σ =
     )
 
 -- sched[to_suspend += t]
-abbrev pub withSuspend : ℕ → Scheduler → Scheduler
-withSuspend t σ =
+abbrev pub toSuspendPlus : ℕ → Scheduler → Scheduler
+toSuspendPlus t σ =
     withOrders σ (
     let o = σ .orders in
     record {
@@ -213,8 +213,8 @@ withSuspend t σ =
     )
 
 -- sched[to_resume += t]
-abbrev pub withResume : ℕ → Scheduler → Scheduler
-withResume t σ =
+abbrev pub toResumePlus : ℕ → Scheduler → Scheduler
+toResumePlus t σ =
     withOrders σ (
     let o = σ .orders in
     record {

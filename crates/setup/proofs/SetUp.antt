@@ -13,7 +13,7 @@ use Rattle.numbers.proofs.Tests.{clash}
 use Rattle.kinds.specs.declared.Counts.{Counts}
 use Rattle.layout.specs.Layout.{mostRoutines, mostSignals, mostCounters, countsOf}
 use Rattle.book.specs.Accepted.{Accepted}
-use Rattle.book.proofs.Telling.{accepted-tells}
+use Rattle.book.proofs.Reasons.{accepted-exactly}
 use Rattle.game.specs.declared.Game.{Game}
 use Rattle.game.specs.Game.{notStarted, blank, routineAt, Sized}
 use Rattle.lines.specs.Lines.{mostEntries, empty, itemAt, pushed}
@@ -77,4 +77,4 @@ new-game-fits s a =
 
 pub set-up-fits : (s : List ℕ) (g : Game) → GivesFitting s (setUp s g)
 unfolding setUp
-set-up-fits s g e = rw e (new-game-fits s (accepted-tells s .0 e))
+set-up-fits s g e = rw e (new-game-fits s (accepted-exactly s .0 e))

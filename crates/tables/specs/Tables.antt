@@ -94,15 +94,15 @@ abbrev pub startLine : List ℕ → ℕ → Line
 startLine fields count = record { items = lastRow startingRow fields; len = count }
 
 -- the first of a pair, a number from 0 on; what is below 0 stands for no number that is asked for
-abbrev pub firstOf : ℤ → ℕ
-firstOf (pos n) = n
-firstOf (negsuc n) = wordLimit + n
+abbrev pub firstOfPair : ℤ → ℕ
+firstOfPair (pos n) = n
+firstOfPair (negsuc n) = wordLimit + n
 
 -- the pairs of a buffer
 unfoldable pub pairsOf : List ℤ → List (ℕ × ℤ)
 pairsOf [] = []
 pairsOf (a ∷ []) = []
-pairsOf (a ∷ b ∷ l) = (firstOf a, b) ∷ pairsOf l
+pairsOf (a ∷ b ∷ l) = (firstOfPair a, b) ∷ pairsOf l
 
 -- a pair behind the first n of a buffer; a full buffer takes no more
 unfoldable pub pairPut : ℕ → ℕ → ℤ → List ℤ → List ℤ

@@ -13,8 +13,8 @@ use Rattle.tables.specs.declared.Tally.{Tally}
 use Rattle.tables.specs.Tables.{stagesRow, endsRow, rowAt, routineIn, stateOf}
 use Rattle.tables.proofs.Lists.{below-read}
 use Rattle.round.specs.declared.Act.{Act}
-use Rattle.round.specs.State.{Happening, hasEnded, isEndThere}
-use Rattle.round.specs.Ticks.{Tick, telling}
+use Rattle.round.specs.State.{Event, hasEnded, isEndThere}
+use Rattle.round.specs.Ticks.{Tick, tickWith}
 
 -- what a choice of ticks comes to
 pub choice-act : (b : Bool) (t u : Tick) → (if b then t else u) .act ≡ (if b then t .act else u .act)
@@ -23,8 +23,8 @@ choice-act false t u = refl
 
 -- of a timed step, which also goes on with none left
 pub timed-act :
-    (none there : Bool) (a : Act) (p q : List Happening) (t : Tick) →
-    (if none && not there then telling a p else if there then telling a q else t) .act ≡ (if none || there then a else t .act)
+    (none there : Bool) (a : Act) (p q : List Event) (t : Tick) →
+    (if none && not there then tickWith a p else if there then tickWith a q else t) .act ≡ (if none || there then a else t .act)
 timed-act true true a p q t = refl
 timed-act true false a p q t = refl
 timed-act false true a p q t = refl

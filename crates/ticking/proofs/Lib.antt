@@ -1,5 +1,5 @@
 pub mod Searches
 pub mod Seeking
 pub mod Acting
-pub mod Told
+pub mod StepMarks
 pub mod Accepting

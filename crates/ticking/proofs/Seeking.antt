@@ -17,12 +17,12 @@ use Rattle.numbers.specs.Choice.{if_then_else_}
 use Rattle.numbers.specs.Numbers.{wordLimit}
 use Rattle.numbers.proofs.Tests.{by-flag}
 use Rattle.layout.specs.Layout.{mostSignals}
-use Rattle.tables.specs.Tables.{firstOf, pairsOf}
+use Rattle.tables.specs.Tables.{firstOfPair, pairsOf}
 use Rattle.tables.proofs.Lists.{pairs-length}
 use Rattle.round.specs.State.{numbersWith}
 
 -- two order tests say whether a signal is e
-pub same-signal : (z : ℤ) (e : ℕ) → e < mostSignals → (leZ z (pos e) && leZ (pos e) z) ≡ eqb (firstOf z) e
+pub same-signal : (z : ℤ) (e : ℕ) → e < mostSignals → (leZ z (pos e) && leZ (pos e) z) ≡ eqb (firstOfPair z) e
 same-signal (pos a) e h =
     by-flag (eqb a e) (λ t. let s = eqb-true a e t in rw (t, le-leb a e (omega arith), le-leb e a (omega arith)))
     (λ f.
@@ -35,7 +35,7 @@ same-signal (negsuc a) e h = rw (ne-eqb (wordLimit + a) e (λ s. omega arith))
 
 pairs-read :
     (l : List ℤ) (i : ℕ) (d : ℕ × ℤ) → i < length l / 2 →
-    getD (pairsOf l) i d ≡ (firstOf (getD l (2 * i) (pos 0)), getD l (2 * i + 1) (pos 0))
+    getD (pairsOf l) i d ≡ (firstOfPair (getD l (2 * i) (pos 0)), getD l (2 * i + 1) (pos 0))
 unfolding pairsOf
 pairs-read [] i d h = absurd (omega arith)
 pairs-read (a ∷ []) i d h = absurd (omega arith)
@@ -54,7 +54,7 @@ module _ (l : List ℤ) (count e k : ℕ) where
 
   -- the signal and the number of a pair
   abbrev signalIn : ℕ → ℕ
-  signalIn at = firstOf (getD l (2 * at) (pos 0))
+  signalIn at = firstOfPair (getD l (2 * at) (pos 0))
 
   abbrev numberIn : ℕ → ℤ
   numberIn at = getD l (2 * at + 1) (pos 0)

@@ -10,21 +10,20 @@ use Rattle.kinds.specs.declared.Kind.{Kind}
 use Rattle.kinds.specs.declared.Kind.the-variants as kind
 use Rattle.kinds.specs.declared.Step.the-variants as step
 use Rattle.kinds.specs.declared.Counts.{Counts}
-use Rattle.kinds.specs.Steps.{kindAt, stepAt}
+use Rattle.kinds.specs.Steps.{kindAt, stepAt, stepsIn}
 use Rattle.layout.specs.Layout.{mostRoutines, mostSignals, mostCounters}
 use Rattle.round.specs.declared.Position.{Position}
 use Rattle.round.specs.declared.Effect.{Effect}
 use Rattle.round.specs.declared.Effect.the-variants.{Nothing, Mark, Put, Add, Give, GiveNumber, Start, Stop, Suspend, Resume}
 use Rattle.round.specs.declared.Act.{Act}
 use Rattle.round.specs.State.{State}
-use Rattle.round.specs.Jumps.{sizeOf}
-use Rattle.round.specs.Ticks.{tickOf, quits}
+use Rattle.round.specs.Ticks.{tickOf, endsHere}
 
--- What the step at position x comes to, or the routine's end. The routine's number is told of a step and nothing else comes of it: any
+-- What the step at position x comes to, or the routine's end. The routine's number is in a step's events and nothing else comes of it: any
 -- number does, here 0.
 unfoldable pub actAt : List ℕ → Position → State → Act
 actAt steps x s =
-    if ltb (x .place) (sizeOf steps) then tickOf 0 steps x s (kindAt steps (x .place)) .act else quits 0 steps x s .act
+    if ltb (x .place) (stepsIn steps) then tickOf 0 steps x s (kindAt steps (x .place)) .act else endsHere 0 steps x s .act
 
 -- a kind whose counters, signals and routines the tables have a place for; a count is below the limit of a field, a reading's k is not 0
 abbrev pub Within : Kind → Type 0
@@ -52,11 +51,11 @@ Within kind.End = Unit {0}
 
 -- the tables have a place for what each of these steps names
 abbrev pub AllWithin : List ℕ → Type 0
-AllWithin steps = (p : ℕ) → p < sizeOf steps → Within (kindAt steps p)
+AllWithin steps = (p : ℕ) → p < stepsIn steps → Within (kindAt steps p)
 
 -- no step is turned down under the book's counts
 abbrev pub Decodes : Counts → List ℕ → Type 0
-Decodes counts steps = (p : ℕ) → p < sizeOf steps → stepAt counts steps p ≡ step.Kind (kindAt steps p)
+Decodes counts steps = (p : ℕ) → p < stepsIn steps → stepAt counts steps p ≡ step.Kind (kindAt steps p)
 
 -- the marks that routine r leaves by an effect
 abbrev pub markBy : ℕ → Effect → List (ℕ × ℤ)

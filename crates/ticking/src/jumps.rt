@@ -12,11 +12,12 @@ ghost use Prim.Native.Nat.{_+_, _<_, _≤_};
 ghost use lib.Dec.{eqb};
 ghost use Rattle.numbers.specs.Choice.{if_then_else_};
 ghost use Rattle.numbers.specs.Numbers.{relationOf};
-ghost use Rattle.round.specs.Jumps.{sizeOf, pastPartner, openingBefore, fromEnd};
+ghost use Rattle.kinds.specs.Steps.{stepsIn};
+ghost use Rattle.round.specs.Jumps.{pastPartner, openingBefore, fromEnd};
 
 // The place behind the partner of an opening or an else.
 pub fn past_partner(steps: &[u8], place: usize) -> usize
-    requires { ⌜ place < sizeOf (now steps) ⌝ }
+    requires { ⌜ place < stepsIn (now steps) ⌝ }
     ensures { λ r. ⌜ r ≡ pastPartner (now (steps .entry)) place ⌝ }
 {
     partner(steps, place + 1) + 1
@@ -24,7 +25,7 @@ pub fn past_partner(steps: &[u8], place: usize) -> usize
 
 // The opening that is not closed before a place.
 fn opening_before(steps: &[u8], place: usize) -> usize
-    requires { ⌜ place < sizeOf (now steps) ⌝ }
+    requires { ⌜ place < stepsIn (now steps) ⌝ }
     ensures { λ r. ⌜ (r ≡ openingBefore (now (steps .entry)) 0 place) × (r ≤ place) ⌝ }
 {
     let mut at = place;
@@ -50,7 +51,7 @@ fn opening_before(steps: &[u8], place: usize) -> usize
 
 // Where an end leads: to its while's test, or past its if.
 pub fn from_end(steps: &[u8], place: usize) -> usize
-    requires { ⌜ place < sizeOf (now steps) ⌝ }
+    requires { ⌜ place < stepsIn (now steps) ⌝ }
     ensures { λ r. ⌜ r ≡ fromEnd (now (steps .entry)) place ⌝ }
 {
     let opening = opening_before(steps, place);
@@ -63,7 +64,7 @@ pub fn from_end(steps: &[u8], place: usize) -> usize
 
 // An if or a while that holds a counter's content v against n: into its block, or past it.
 pub fn tests(steps: &[u8], place: usize, by: usize, v: i32, n: i32) -> Act
-    requires { ⌜ place < sizeOf (now steps) ⌝ }
+    requires { ⌜ place < stepsIn (now steps) ⌝ }
     ensures { λ r. ⌜ r ≡ Act.Goes
         (if eqb (relationOf by v n) 1 then place + 1 else pastPartner (now (steps .entry)) place) Effect.Nothing ⌝ }
 {

@@ -29,10 +29,10 @@ use tries::waits_for;
 ghost use mathlib.Core.Path.{_≡_};
 ghost use Prim.Native.Nat.{_/_, _<_, _≤_};
 ghost use lib.ListN.{length};
+ghost use Rattle.kinds.specs.Steps.{stepsIn};
 ghost use Rattle.tables.specs.declared.Tally.{Tally};
 ghost use Rattle.tables.specs.Tables.{stateOf};
 ghost use Rattle.game.specs.declared.Game.{Game};
-ghost use Rattle.round.specs.Jumps.{sizeOf};
 ghost use Rattle.round.specs.Ticks as ticks;
 ghost use Rattle.ticking.specs.Acts.{Within, AllWithin, actAt};
 
@@ -66,7 +66,7 @@ fn act_of(
     fields: &[u32; FIELDS],
     given: &[i32],
 ) -> Act
-    requires { ⌜ (x .place < sizeOf (now steps)) × (Within kind) × (count ≤ length (now given) / 2) ⌝ }
+    requires { ⌜ (x .place < stepsIn (now steps)) × (Within kind) × (count ≤ length (now given) / 2) ⌝ }
     ensures { λ r. ⌜ ((g : Game) (t : Tally) → t .given ≡ count →
         r ≡ ticks.tickOf 0 (now (steps .entry)) x
         (stateOf g (now (counters .entry)) (now (flags .entry)) (now (fields .entry)) (now (given .entry)) t eoi) kind .act) ⌝ }

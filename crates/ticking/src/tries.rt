@@ -19,7 +19,7 @@ ghost use lib.IntN.{pos};
 ghost use lib.ListN.{length, getD, take};
 ghost use Rattle.numbers.specs.Choice.{if_then_else_};
 ghost use Rattle.layout.specs.Layout.{mostSignals};
-ghost use Rattle.tables.specs.Tables.{stagesRow, endsRow, rowAt, firstOf, pairsOf};
+ghost use Rattle.tables.specs.Tables.{stagesRow, endsRow, rowAt, firstOfPair, pairsOf};
 ghost use Rattle.round.specs.State.{hasEnded, numbersWith};
 ghost use Rattle.round.specs.Ticks as ticks;
 
@@ -49,7 +49,7 @@ pub fn rests_for(place: usize, k: usize) -> Act
 }
 
 // Where its thing is missing, a routine is to be continued, and rests at position y once the round is being closed.
-fn lacks(x: Position, eoi: bool, y: Position) -> Act
+fn when_missing(x: Position, eoi: bool, y: Position) -> Act
     ensures { λ r. ⌜ r ≡ (if eoi then Act.Halts Ending.Missed y else Act.Halts Ending.Continued x) ⌝ }
 {
     if eoi {
@@ -70,7 +70,7 @@ pub fn tries(x: Position, eoi: bool, there: bool, y: Position) -> Act
     if there {
         Act::Goes(x.place + 1, Effect::Nothing)
     } else {
-        lacks(x, eoi, y)
+        when_missing(x, eoi, y)
     }
 }
 
@@ -108,7 +108,7 @@ pub fn end_there(flags: &[bool; FLAGS], fields: &[u32; FIELDS], routine: usize) 
 // Whether the first number of a pair stands for signal e. Two order tests say equal: == on signed numbers is a fact about their bits.
 fn is_signal(v: i32, e: usize) -> bool
     requires { ⌜ e < mostSignals ⌝ }
-    ensures { λ r. ⌜ r ≡ eqb (firstOf v) e ⌝ }
+    ensures { λ r. ⌜ r ≡ eqb (firstOfPair v) e ⌝ }
 {
     let wanted = e as i32;
     v <= wanted && wanted <= v
@@ -158,5 +158,5 @@ pub fn reads(
     if at < count {
         return Act::Goes(x.place + 1, Effect::Put(c, given[2 * at + 1]));
     }
-    lacks(x, eoi, fresh(x.place + 1))
+    when_missing(x, eoi, fresh(x.place + 1))
 }

@@ -5,13 +5,13 @@ use mathlib.Core.Path.{_≡_, refl, sym, _∙_}
 use mathlib.Core.List.{List, [], _∷_}
 use types.Run.{OneOf, miss}
 use denote.Enum.Declared.{tagOf}
-use Rattle.verdicts.specs.declared.Answer.{Answer}
-use Rattle.verdicts.specs.declared.Answer.the-variants.{Accepted, TooShort, WrongCount, WrongLayout, WrongEntry, WrongStep}
-use Rattle.verdicts.specs.declared.Answer.the-variants.{WrongNesting, WithoutPause}
+use Rattle.verdicts.specs.declared.BookAnswer.{BookAnswer}
+use Rattle.verdicts.specs.declared.BookAnswer.the-variants.{Accepted, TooShort, WrongCount, WrongLayout, WrongEntry, WrongStep}
+use Rattle.verdicts.specs.declared.BookAnswer.the-variants.{WrongNesting, WithoutPause}
 use Rattle.verdicts.specs.Verdicts.{verdictOf}
-use Rattle.verdicts.proofs.Answer.{the-type}
+use Rattle.verdicts.proofs.BookAnswer.{the-type}
 
-number-tag : (a : Answer) → verdictOf a .number ≡ tagOf the-type a
+number-tag : (a : BookAnswer) → verdictOf a .number ≡ tagOf the-type a
 number-tag Accepted = refl
 number-tag TooShort = refl
 number-tag WrongCount = refl
@@ -22,7 +22,7 @@ number-tag (WrongNesting i) = refl
 number-tag (WithoutPause i) = refl
 
 -- so an answer of one of these variants has no other number
-other-number : (l : List ℕ) (k : ℕ) (a : Answer) → (OneOf l k → ⊥) → OneOf l (tagOf the-type a) → verdictOf a .number ≡ k → ⊥
+other-number : (l : List ℕ) (k : ℕ) (a : BookAnswer) → (OneOf l k → ⊥) → OneOf l (tagOf the-type a) → verdictOf a .number ≡ k → ⊥
 other-number l k a none is z = none (rw (sym (number-tag a) ∙ z) at is)
 
 -- the variants behind the first, and those but for wrong nesting
@@ -32,8 +32,8 @@ refusals = 1 ∷ 2 ∷ 3 ∷ 4 ∷ 5 ∷ 6 ∷ 7 ∷ []
 abbrev others : List ℕ
 others = 0 ∷ 1 ∷ 2 ∷ 3 ∷ 4 ∷ 5 ∷ 7 ∷ []
 
-pub refuses : (a : Answer) → OneOf refusals (tagOf the-type a) → verdictOf a .number ≡ 0 → ⊥
+pub refuses : (a : BookAnswer) → OneOf refusals (tagOf the-type a) → verdictOf a .number ≡ 0 → ⊥
 refuses a = other-number refusals 0 a (miss refusals 0 (tt {0}))
 
-pub not-six : (a : Answer) → OneOf others (tagOf the-type a) → verdictOf a .number ≡ 6 → ⊥
+pub not-six : (a : BookAnswer) → OneOf others (tagOf the-type a) → verdictOf a .number ≡ 6 → ⊥
 not-six a = other-number others 6 a (miss others 6 (tt {0}))

@@ -4,9 +4,9 @@ use mathlib.Core.Bool.{Bool}
 use lib.Dec.{eqb}
 use Rattle.numbers.specs.Choice.{if_then_else_}
 use Rattle.verdicts.specs.declared.Verdict.{Verdict}
-use Rattle.verdicts.specs.declared.Answer.{Answer}
-use Rattle.verdicts.specs.declared.Answer.the-variants.{Accepted, TooShort, WrongCount, WrongLayout, WrongEntry, WrongStep}
-use Rattle.verdicts.specs.declared.Answer.the-variants.{WrongNesting, WithoutPause}
+use Rattle.verdicts.specs.declared.BookAnswer.{BookAnswer}
+use Rattle.verdicts.specs.declared.BookAnswer.the-variants.{Accepted, TooShort, WrongCount, WrongLayout, WrongEntry, WrongStep}
+use Rattle.verdicts.specs.declared.BookAnswer.the-variants.{WrongNesting, WithoutPause}
 
 -- "both 0 where nothing is turned down"
 abbrev pub accepted : Verdict
@@ -16,7 +16,7 @@ abbrev pub refused : ℕ → ℕ → Verdict
 refused k p = record { number = k; place = p }
 
 -- "The answer is the number and the place": those of each answer of reading a book
-abbrev pub verdictOf : Answer → Verdict
+abbrev pub verdictOf : BookAnswer → Verdict
 verdictOf Accepted = accepted
 verdictOf TooShort = refused 1 0
 verdictOf WrongCount = refused 2 0

@@ -3,7 +3,7 @@ ghost use mathlib.Core.Path.{_≡_};
 ghost use Rattle.verdicts.specs.Verdicts.{refused, verdictOf, _orElse_};
 
 // What reading a book answers: accepted, or the first refusal that applies, with its place where it has one.
-pub enum Answer {
+pub enum BookAnswer {
     Accepted,
     TooShort,
     WrongCount,
@@ -30,30 +30,30 @@ pub const WRONG_NESTING: u32 = 6;
 pub const UNFIT: u32 = 9;
 
 // The number and the place of an answer.
-pub fn verdict_of(answer: Answer) -> Verdict
+pub fn verdict_of(answer: BookAnswer) -> Verdict
     ensures { λ r. ⌜ r ≡ verdictOf answer ⌝ }
 {
     match answer {
-        Answer::Accepted => told(0, 0),
-        Answer::TooShort => told(1, 0),
-        Answer::WrongCount => told(2, 0),
-        Answer::WrongLayout => told(3, 0),
-        Answer::WrongEntry(routine) => told(4, routine),
-        Answer::WrongStep(step) => told(WRONG_STEP, step),
-        Answer::WrongNesting(step) => told(WRONG_NESTING, step),
-        Answer::WithoutPause(step) => told(7, step),
+        BookAnswer::Accepted => as_verdict(0, 0),
+        BookAnswer::TooShort => as_verdict(1, 0),
+        BookAnswer::WrongCount => as_verdict(2, 0),
+        BookAnswer::WrongLayout => as_verdict(3, 0),
+        BookAnswer::WrongEntry(routine) => as_verdict(4, routine),
+        BookAnswer::WrongStep(step) => as_verdict(WRONG_STEP, step),
+        BookAnswer::WrongNesting(step) => as_verdict(WRONG_NESTING, step),
+        BookAnswer::WithoutPause(step) => as_verdict(7, step),
     }
 }
 
 // A number and a place as a verdict.
-pub fn told(number: u32, place: u32) -> Verdict
+pub fn as_verdict(number: u32, place: u32) -> Verdict
     ensures { λ r. ⌜ r ≡ refused number place ⌝ }
 {
     Verdict { number, place }
 }
 
 // The first of two answers that is a refusal; the second where neither is one.
-pub fn first_answer(one: Answer, other: Answer) -> Answer
+pub fn first_book_answer(one: BookAnswer, other: BookAnswer) -> BookAnswer
     ensures { λ r. ⌜ verdictOf r ≡ (verdictOf one orElse verdictOf other) ⌝ }
 {
     if verdict_of(one).number == 0 {

@@ -6,8 +6,8 @@ use lib.Dec.{ltb}
 use Rattle.verdicts.specs.Verdicts.{refused, _orElse_, unless}
 use Rattle.layout.specs.Layout.{countsOf}
 use Rattle.book.specs.Book.{bookVerdict}
-use Rattle.book.specs.Tells.{nothing}
-use Rattle.book.proofs.Telling.{told-only, number-accepted}
+use Rattle.book.specs.Reasons.{nothing}
+use Rattle.book.proofs.Reasons.{book-reason-only, number-accepted}
 use Rattle.orders.specs.Orders.{orderCount, orderVerdict}
 use Rattle.ordering.proofs.order_verdict.Statement.{statement}
 use Rattle.ordering.proofs.order_verdict.Tie as tie
@@ -44,10 +44,10 @@ returns c = rw (← read (c .before .before), ne-eqb _ _ (c .if1 .taken))
 returns-2 : tie.Need-returns-2
 returns-2 c =
     let fits = c .before .before in
-    rw (past-book fits, not-true (fits .fits2 .result) (c .before .if2 .taken)) (c .told .ensures)
+    rw (past-book fits, not-true (fits .fits2 .result) (c .before .if2 .taken)) (c .as-verdict .ensures)
 
 returns-3 : tie.Need-returns-3
-returns-3 c = rw (past-game (c .before .before), le-ltb _ _ (c .before .if3 .taken)) (c .told2 .ensures)
+returns-3 c = rw (past-game (c .before .before), le-ltb _ _ (c .before .if3 .taken)) (c .as-verdict2 .ensures)
 
 -- an accepted book's verdict also has place 0
 returns-4 : tie.Need-returns-4
@@ -55,7 +55,7 @@ returns-4 c =
     let clear = c .before .before .before .before .before in
     let book = read (clear .before .before) in
     let accepted = number-accepted _ (ap (λ v. v .number) (sym book) ∙ clear .if1 .left) in
-    rw (past-game (c .before), lt-ltb _ _ (c .if3 .left)) (book ∙ told-only _ (nothing accepted))
+    rw (past-game (c .before), lt-ltb _ _ (c .if3 .left)) (book ∙ book-reason-only _ (nothing accepted))
 
 pub order-verdict-spec : {M : Type 1} → statement M
 order-verdict-spec =

@@ -1,7 +1,7 @@
 -- `play_listing::list_round` meets its contract: the answer of the call is the definition's, which has no more marks than the buffer has
 -- room for.
 use Prim.Native.Nat.{_≤_}
-use mathlib.Core.Path.{_≡_, refl, ap}
+use mathlib.Core.Path.{refl, ap}
 use native.Mathlib.Omega.{arith}
 use borrow.Author.Needs.{needs}
 use lib.ListN.{length-take}

@@ -9,7 +9,7 @@ use borrow.Author.Tests.{not-true, not-false}
 use Rattle.verdicts.specs.declared.Verdict.{Verdict}
 use Rattle.book.specs.Book.{bookVerdict}
 use Rattle.book.specs.Accepted.{Accepted}
-use Rattle.book.proofs.Telling.{number-accepted}
+use Rattle.book.proofs.Reasons.{number-accepted}
 use Rattle.fitting.specs.Fits.{Fits}
 use Rattle.fitting.proofs.Decides.{fits-decides}
 use Rattle.round.specs.Answers.{spaceFor}
@@ -43,14 +43,14 @@ returns-2 : tie.Need-returns-2
 returns-2 c =
     let f = c .before .before .before in
     let unfit = sym (f .fits2 .ensures) ∙ not-true (f .fits2 .result) (c .before .before .if2 .taken) in
-    promised _ _ _ (c .turned-down2 .ensures _ ∙ unfit-refuses _ _ _ _ (c .before .told .ensures) (accepted-book (f .before)) unfit)
+    promised _ _ _ (c .turned-down2 .ensures _ ∙ unfit-refuses _ _ _ _ (c .before .as-verdict .ensures) (accepted-book (f .before)) unfit)
 
 returns-3 : tie.Need-returns-3
 returns-3 c =
     let m = c .before .before .before in
     promised _ _ _
     (c .turned-down3 .ensures _
-    ∙ short-refuses _ _ _ _ (c .before .told2 .ensures) (accepted-book (m .before .before .before)) (fitting-game (m .before))
+    ∙ short-refuses _ _ _ _ (c .before .as-verdict2 .ensures) (accepted-book (m .before .before .before)) (fitting-game (m .before))
     (omega (arith, m .mark-steps .ensures .0, c .before .before .if3 .taken)))
 
 round-requires : tie.Need-round-requires

@@ -78,7 +78,7 @@ returns c =
     let before = out .before .before .before .before .before in
     let o = is-opened before in
     let done = out .play-out .ensures _ o in
-    finished _ _ (o .accepted) (o .fits) done _ _ _ (o .listed) (c .told .ensures) (c .before .finish .ensures) (start before .pre .2)
+    finished _ _ (o .accepted) (o .fits) done _ _ _ (o .listed) (c .as-verdict .ensures) (c .before .finish .ensures) (start before .pre .2)
 
 pub round-spec : {M : Type 1} → statement M
 round-spec =

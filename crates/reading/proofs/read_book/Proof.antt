@@ -59,7 +59,7 @@ returns-4 c =
       in-order entries,
       ← (steps .check-steps .ensures),
       ← (blocks .check-blocks .ensures),
-    ) (c .first-answer .ensures)
+    ) (c .first-book-answer .ensures)
 
 pub read-book-spec : {M : Type 1} → statement M
 read-book-spec =

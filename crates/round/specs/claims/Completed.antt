@@ -10,14 +10,14 @@ use Rattle.kinds.specs.Steps.{opAt}
 use Rattle.layout.specs.Layout.{mostSteps}
 use Rattle.directory.specs.Directory.{routineSteps}
 use Rattle.game.specs.declared.Game.{Game}
-use Rattle.round.specs.State.{Happening, gave, ended, missing, past, marked, completed}
-use Rattle.round.specs.Rounds.{listedIn, historyOf}
+use Rattle.round.specs.State.{Event, gave, ended, missing, past, marked, completed}
+use Rattle.round.specs.Rounds.{listedIn, traceOf}
 use Rattle.round.specs.Answers.{marksIn, numbersPerMark, spaceFor, mostNumbers}
-use Rattle.round.specs.claims.Tells.{numbersGiven}
+use Rattle.round.specs.claims.Reasons.{numbersGiven}
 use Rattle.round.specs.claims.Demand.{isSignalStep, givesSignal, countSteps}
 
 -- a step of a set is completed; a step is a routine and a place
-abbrev pub completes : (ℕ → ℕ → Bool) → Happening → Bool
+abbrev pub completes : (ℕ → ℕ → Bool) → Event → Bool
 completes set (gave e k) = false
 completes set (ended r) = false
 completes set (missing r p t) = false
@@ -39,15 +39,15 @@ isAddition book r p = let op = opAt (routineSteps book r) p in eqb op opAdd || e
 -- in a round from game g
 pub record CompletedOnce (book : List ℕ) (g : Game) : Type 0 where
   -- of any set of steps at most as many are completed as the listed routines have
-  pub once : (set : ℕ → ℕ → Bool) → howMany (completes set) (historyOf book g) ≤ countSteps book set (listedIn g)
+  pub once : (set : ℕ → ℕ → Bool) → howMany (completes set) (traceOf book g) ≤ countSteps book set (listedIn g)
   -- so no step is completed twice
-  pub neverTwice : (r p : ℕ) → howMany (completes (theStep r p)) (historyOf book g) ≤ 1
+  pub neverTwice : (r p : ℕ) → howMany (completes (theStep r p)) (traceOf book g) ≤ 1
   -- so a round gives at most as many signals as its listed routines have signal steps,
-  pub signals : howMany givesSignal (historyOf book g) ≤ countSteps book (isSignalStep book) (listedIn g)
+  pub signals : howMany givesSignal (traceOf book g) ≤ countSteps book (isSignalStep book) (listedIn g)
   -- writes at most as many marks as they have mark steps, and the buffer that 10 asks for holds them,
-  pub marks : length (marksIn (historyOf book g)) ≤ countSteps book (isMarkStep book) (listedIn g)
-  pub space : numbersPerMark * length (marksIn (historyOf book g)) ≤ spaceFor book
+  pub marks : length (marksIn (traceOf book g)) ≤ countSteps book (isMarkStep book) (listedIn g)
+  pub space : numbersPerMark * length (marksIn (traceOf book g)) ≤ spaceFor book
   -- gives at most 1,024 numbers,
-  pub numbers : numbersGiven (historyOf book g) ≤ mostNumbers
+  pub numbers : numbersGiven (traceOf book g) ≤ mostNumbers
   -- and adds to counters at most 1,024 times, the most steps that a book has
-  pub additions : howMany (completes (isAddition book)) (historyOf book g) ≤ mostSteps
+  pub additions : howMany (completes (isAddition book)) (traceOf book g) ≤ mostSteps

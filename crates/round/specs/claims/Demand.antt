@@ -17,9 +17,9 @@ use Rattle.directory.specs.Directory.{stepCount, routineSteps}
 use Rattle.game.specs.declared.Game.{Game}
 use Rattle.game.specs.Game.{routineAt}
 use Rattle.game.specs.Game as stage
-use Rattle.round.specs.State.{Thing, signal, end, number, Happening, gave, ended, missing, past, marked, completed}
+use Rattle.round.specs.State.{Thing, signal, end, number, Event, gave, ended, missing, past, marked, completed}
 use Rattle.round.specs.Actions.{atStart}
-use Rattle.round.specs.Rounds.{listedIn, historyOf}
+use Rattle.round.specs.Rounds.{listedIn, traceOf}
 
 -- "A signal step is one of op 4 or 5"
 abbrev pub isSignalOp : ℕ → Bool
@@ -34,7 +34,7 @@ abbrev pub countSteps : List ℕ → (ℕ → ℕ → Bool) → List ℕ → ℕ
 countSteps book set rs = sumOver (λ r. countBelow (set r) (stepCount book r)) rs
 
 -- "it gives a signal each time a pass carries it out, repeated ones too, and broadcasts and end signals don't count"
-abbrev pub givesSignal : Happening → Bool
+abbrev pub givesSignal : Event → Bool
 givesSignal (gave e k) = true
 givesSignal (ended r) = false
 givesSignal (missing r p t) = false
@@ -43,7 +43,7 @@ givesSignal (marked r n) = false
 givesSignal (completed r p) = false
 
 -- "A routine ended in the round if a pass brought it to stage 3"
-abbrev pub endsRoutine : Happening → Bool
+abbrev pub endsRoutine : Event → Bool
 endsRoutine (gave e k) = false
 endsRoutine (ended r) = true
 endsRoutine (missing r p t) = false
@@ -62,34 +62,34 @@ pub data AsksFor : Step → Thing → Type 0 where
 
 -- "It comes later if, in the same round after that try, a step gives the signal, the joined routine ends, or the signal's k-th number is
 -- given."
-pub data Comes : Thing → Happening → Type 0 where
+pub data Comes : Thing → Event → Type 0 where
   signalGiven : {e k : ℕ} → Comes (signal e) (gave e k)
   routineEnded : {r : ℕ} → Comes (end r) (ended r)
   numberGiven : {e k : ℕ} → Comes (number e k) (gave e k)
 
 -- "The routine is past the step once a later try in that round finds the thing and completes the step; a reading that rests isn't past.":
--- of routine r, its step at place p and thing t, somewhere in a history; that a step is completed is told first, and then what it found
-pub data IsPast (r p : ℕ) (t : Thing) : List Happening → Type 0 where
-  here : {told : List Happening} → IsPast r p t (completed r p ∷ past r p t ∷ told)
-  later : {h : Happening} {told : List Happening} → IsPast r p t told → IsPast r p t (h ∷ told)
+-- of routine r, its step at place p and thing t, somewhere in a trace; that a step is completed comes first, and then what it found
+pub data IsPast (r p : ℕ) (t : Thing) : List Event → Type 0 where
+  here : {events : List Event} → IsPast r p t (completed r p ∷ past r p t ∷ events)
+  later : {h : Event} {events : List Event} → IsPast r p t events → IsPast r p t (h ∷ events)
 
--- Wherever in the history a try "finds its signal, the joined routine's end or the signal's k-th number missing", and the thing comes
+-- Wherever in the trace a try "finds its signal, the joined routine's end or the signal's k-th number missing", and the thing comes
 -- later, there the routine is past the step later.
-abbrev pub CatchesUp : List Happening → Type 0
-CatchesUp told =
-    (before after : List Happening) (r p : ℕ) (t : Thing) → told ≡ before ++ (missing r p t ∷ after) →
+abbrev pub CatchesUp : List Event → Type 0
+CatchesUp events =
+    (before after : List Event) (r p : ℕ) (t : Thing) → events ≡ before ++ (missing r p t ∷ after) →
     Somewhere (Comes t) after → IsPast r p t after
 
 -- "All this is one claim about the whole round.": a round from the game as lent, "Passes: the number in the round's answer.", and the game
 -- given back
 pub record Demand3 (book : List ℕ) (lent : Game) (passes : ℕ) (back : Game) : Type 0 where
   -- passes ≤ 2 + signals given by steps + routines ended
-  pub fewPasses : passes ≤ 2 + howMany givesSignal (historyOf book lent) + howMany endsRoutine (historyOf book lent)
+  pub fewPasses : passes ≤ 2 + howMany givesSignal (traceOf book lent) + howMany endsRoutine (traceOf book lent)
   -- those signals ≤ the signal steps of the listed routines; "Listed, suspended: once the eight actions are done."
-  pub fewSignals : howMany givesSignal (historyOf book lent) ≤ countSteps book (isSignalStep book) (listedIn lent)
+  pub fewSignals : howMany givesSignal (traceOf book lent) ≤ countSteps book (isSignalStep book) (listedIn lent)
   -- at its end every listed routine that isn't suspended has rested or ended; "rested or ended is stage 2 or 3 in the game given back"
   pub restedOrEnded :
       (r : ℕ) → Among r (listedIn lent) → routineAt (atStart lent .game) r .suspended ≡ false →
       (routineAt back r .stage ≡ stage.rested) ⊎ (routineAt back r .stage ≡ stage.ended)
   -- each that found something missing which came later in that round went past that step in it
-  pub caughtUp : CatchesUp (historyOf book lent)
+  pub caughtUp : CatchesUp (traceOf book lent)

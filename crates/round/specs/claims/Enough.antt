@@ -14,7 +14,7 @@ use Rattle.round.specs.declared.Act.the-variants.{Goes, Halts}
 use Rattle.round.specs.State.{State}
 use Rattle.round.specs.Actions.{atStart}
 use Rattle.round.specs.Ticks.{tick, fresh, effectOn}
-use Rattle.round.specs.Rounds.{ticks, mostTicks, allDone, again, mostPasses, listedIn, pass, instant, round}
+use Rattle.round.specs.Rounds.{ticks, mostTicks, allDone, forNextPass, mostPasses, listedIn, pass, instant, round}
 
 -- what is asked of the position and the state behind a step, if the turn goes on
 abbrev pub IfItGoesOn : Act → State → (Position → State → Type 0) → Type 0
@@ -32,7 +32,7 @@ module _ (book : List ℕ) where
   RoundEnds zero rs s = ⊥
   RoundEnds (suc n) rs s =
       let first = pass book rs s in
-      (allDone (first .turns) ≡ true) ⊎ ((allDone (first .turns) ≡ false) × RoundEnds n rs (again (first .state)))
+      (allDone (first .turns) ≡ true) ⊎ ((allDone (first .turns) ≡ false) × RoundEnds n rs (forNextPass (first .state)))
 
   -- mostTicks steps are enough for every turn, and mostPasses passes for the round from game g
   pub record Enough (g : Game) : Type 0 where

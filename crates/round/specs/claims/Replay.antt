@@ -1,4 +1,4 @@
--- What a round tells, carried out again in order by document 01's table: the counters, the numbers given, and where a routine stands.
+-- The trace of a round, carried out again in order by document 01's table: the counters, the numbers given, and where a routine stands.
 use Prim.Native.Nat.{ℕ, _+_, _-_}
 use mathlib.Core.Bool.{_||_}
 use mathlib.Core.List.{List, [], _∷_, _++_}
@@ -11,7 +11,7 @@ use Rattle.numbers.specs.Numbers.{sumOf, relationOf, countOf}
 use Rattle.kinds.specs.Steps.{opAt, fieldA, fieldB, fieldN}
 use Rattle.directory.specs.Directory.{routineSteps}
 use Rattle.round.specs.declared.Position.{Position}
-use Rattle.round.specs.State.{Happening, gave, ended, missing, past, marked, completed, numbersWith}
+use Rattle.round.specs.State.{Event, gave, ended, missing, past, marked, completed, numbersWith}
 use Rattle.round.specs.Jumps.{pastPartner, fromEnd}
 use Rattle.round.specs.Ticks.{fresh}
 
@@ -55,8 +55,8 @@ abbrev pub atStep {ℓ} : {A : Type ℓ} → (ℕ → ℕ → ℕ → ℤ → A)
 atStep f steps p = f (opAt steps p) (fieldA steps p) (fieldB steps p) (fieldN steps p)
 
 module _ (book : List ℕ) where
-  -- what one thing that happened makes of the contents: only a step that is completed changes them
-  abbrev pub madeOf : Happening → Contents → Contents
+  -- what one event makes of the contents: only a step that is completed changes them
+  abbrev pub madeOf : Event → Contents → Contents
   madeOf (gave e k) c = c
   madeOf (ended r) c = c
   madeOf (missing r p t) c = c
@@ -64,14 +64,14 @@ module _ (book : List ℕ) where
   madeOf (marked r n) c = c
   madeOf (completed r p) c = atStep madeBy (routineSteps book r) p c
 
-  -- and what all that is told makes of them, in order
-  unfoldable pub contentsAfter : List Happening → Contents → Contents
+  -- and what all events make of them, in order
+  unfoldable pub contentsAfter : List Event → Contents → Contents
   contentsAfter [] c = c
-  contentsAfter (h ∷ told) c = contentsAfter told (madeOf h c)
+  contentsAfter (h ∷ events) c = contentsAfter events (madeOf h c)
 
-  -- where one thing that happened leads routine r from position x, with these contents: only a step of its own that is completed moves it,
-  -- by the step there, which is the one told (`stood`, Whole.antt); begun is "cleared when that step is past"
-  abbrev pub ledBy : ℕ → Happening → Contents → Position → Position
+  -- where one event leads routine r from position x, with these contents: only a step of its own that is completed moves it,
+  -- by the step there, which is the completed one (`stood`, Trace.antt); begun is "cleared when that step is past"
+  abbrev pub ledBy : ℕ → Event → Contents → Position → Position
   ledBy r (gave e k) c x = x
   ledBy r (ended q) c x = x
   ledBy r (missing q o t) c x = x
@@ -81,7 +81,7 @@ module _ (book : List ℕ) where
       let steps = routineSteps book r in
       if eqb q r then fresh (atStep (leadsTo steps (x .place)) steps (x .place) (c .0)) else x
 
-  -- and where all that is told leads it
-  unfoldable pub positionAfter : ℕ → List Happening → Contents → Position → Position
+  -- and where all events lead it
+  unfoldable pub positionAfter : ℕ → List Event → Contents → Position → Position
   positionAfter r [] c x = x
-  positionAfter r (h ∷ told) c x = positionAfter r told (madeOf h c) (ledBy r h c x)
+  positionAfter r (h ∷ events) c x = positionAfter r events (madeOf h c) (ledBy r h c x)

@@ -20,7 +20,7 @@ use Rattle.round.specs.declared.Act.the-variants.{Goes, Halts}
 use Rattle.round.specs.State.{State, signal, end, completed, isThere}
 use Rattle.round.specs.Actions.{positionOf, atStart}
 use Rattle.round.specs.Ticks.{begunAt, countAt, tickAt}
-use Rattle.round.specs.Rounds.{stageAfter, listedIn, round, historyOf}
+use Rattle.round.specs.Rounds.{stageAfter, listedIn, round, traceOf}
 
 -- what the step asks for is there; a rest asks for nothing
 abbrev pub hasThing : State → {st : Step} {n : ℕ} → Timed st n → Bool
@@ -51,7 +51,7 @@ pub record TimedRound (book : List ℕ) (g : Game) (r : ℕ) (x : Position) {st 
   -- with none left, or with its thing there at the round's end, it is past in this round
   pub goesPast :
       (countAt x n ≡ 0) ⊎ (hasThing (round book g .played .state) timed ≡ true) →
-      Somewhere (λ h. h ≡ completed r (x .place)) (historyOf book g)
+      Somewhere (λ h. h ≡ completed r (x .place)) (traceOf book g)
   -- otherwise the routine has rested on it, with one less left
   pub countsDown :
       0 < countAt x n → hasThing (round book g .played .state) timed ≡ false →

@@ -25,7 +25,7 @@ use Rattle.setup.specs.SetUp.{newGame}
 use Rattle.round.specs.declared.Ending.the-variants.{Ended, Continued}
 use Rattle.round.specs.declared.Turn.{Turn}
 use Rattle.round.specs.declared.Turn.the-variants.{PassedOver, Took}
-use Rattle.round.specs.State.{signal, Happening, gave, ended, missing, past, marked, completed, numbersWith, isEndThere, isThere}
+use Rattle.round.specs.State.{signal, Event, gave, ended, missing, past, marked, completed, numbersWith, isEndThere, isThere}
 use Rattle.round.specs.Actions.{kept, each, atStart}
 use Rattle.round.specs.Jumps.{pastPartner, openingBefore, fromEnd}
 use Rattle.round.specs.Ticks.{waitsFor, tickOf, tick, effectOn}
@@ -67,8 +67,8 @@ pub record Example : Type 0 where
   pub tells : Answer
 
 -- a call that is turned down, and told this
-abbrev pub isTold : List ℕ → Game → List ℤ → ℕ → Example
-isTold book g buffer number =
+abbrev pub isRefused : List ℕ → Game → List ℤ → ℕ → Example
+isRefused book g buffer number =
     record {
       book = book;
       game = g;
@@ -80,21 +80,21 @@ isTold book g buffer number =
 -- asks for two numbers
 abbrev pub examples : List Example
 examples =
-    isTold [] blankGame [] 1
-    ∷ isTold restsInOne blankGame [] 7
-    ∷ isTold t3 blankGame [] 9
-    ∷ isTold t3 (first t3) [] 10
-    ∷ isTold t3 (first t3) (pos 5 ∷ []) 10
+    isRefused [] blankGame [] 1
+    ∷ isRefused restsInOne blankGame [] 7
+    ∷ isRefused t3 blankGame [] 9
+    ∷ isRefused t3 (first t3) [] 10
+    ∷ isRefused t3 (first t3) (pos 5 ∷ []) 10
     ∷ []
 
--- what T3's first round tells: routine 0 starts routine 1, and misses its signal in both passes
-abbrev pub toldFirst : List Happening
-toldFirst = completed 0 0 ∷ missing 0 1 (signal 0) ∷ missing 0 1 (signal 0) ∷ []
+-- the trace of T3's first round: routine 0 starts routine 1, and misses its signal in both passes
+abbrev pub firstTrace : List Event
+firstTrace = completed 0 0 ∷ missing 0 1 (signal 0) ∷ missing 0 1 (signal 0) ∷ []
 
--- what T3's second round tells, and how each turn came out: routine 0 waits, routine 1 signals and ends, routine 0 goes past, marks and
+-- the trace of T3's second round, and how each turn came out: routine 0 waits, routine 1 signals and ends, routine 0 goes past, marks and
 -- ends, and routine 1 is passed over
-abbrev pub told : List Happening
-told =
+abbrev pub events : List Event
+events =
     missing 0 1 (signal 0) ∷ completed 1 0 ∷ gave 0 0 ∷ ended 1
     ∷ completed 0 1 ∷ past 0 1 (signal 0) ∷ completed 0 2 ∷ marked 0 (pos 7) ∷ ended 0
     ∷ []
@@ -103,18 +103,19 @@ abbrev pub turns : List Turn
 turns = Took Continued ∷ Took Ended ∷ Took Ended ∷ PassedOver ∷ []
 
 -- and in an accepted round the mark (0, 7) stands at the buffer's start, and what is beyond it stays; a rest at the end of a first block
--- leaves the place on the else, and one inside it in the block that was taken; and the steps of the while that does not pause run out, none of them the last
+-- leaves the place on the else, and one inside it in the block that was taken; and the steps of the while that does not pause run out, none
+-- of them the last
 pub as-told :
     (map (λ e. answer (e .book) (e .game) (e .buffer)) examples ≡ map (λ e. e .tells) examples)
-    × (round t3 (first t3) .played .told ≡ toldFirst)
-    × (round t3 afterOne .played .told ≡ told)
+    × (round t3 (first t3) .played .trace ≡ firstTrace)
+    × (round t3 afterOne .played .trace ≡ events)
     × (round t3 afterOne .played .turns ≡ turns)
     × (answer t3 afterOne (pos 5 ∷ pos 6 ∷ pos 8 ∷ []) .buffer ≡ pos 0 ∷ pos 7 ∷ pos 8 ∷ [])
     × (routineAt (answer restsInBoth (first restsInBoth) [] .game) 0 .place ≡ 2)
     × (answer marksInBoth (first marksInBoth) roomForTwo .verdict ≡ accepted)
     × (routineAt (answer marksInBoth (first marksInBoth) roomForTwo .game) 0 .place ≡ 2)
     × (stepsOn .ending ≡ Continued)
-    × (length (stepsOn .told) ≡ mostTicks (routineSteps restsInOne 0))
+    × (length (stepsOn .trace) ≡ mostTicks (routineSteps restsInOne 0))
 unfolding answer roundVerdict written marksIn sumBelow round instant pass turn allDone ticks effectOn tick tickOf waitsFor fromEnd
     openingBefore pastPartner atStart each kept appended isThere isEndThere numbersWith newGame blankGame withStart isSized fitsBook
     routineFits slotFits entryFits lineFits countersFit signalsFit isIn allBelow anyBelow bookVerdict layoutVerdict directoryVerdict

@@ -27,7 +27,7 @@ use Rattle.round.specs.State.{numbersWith, isEndThere, isThere}
 use Rattle.round.specs.Actions.{kept, each, placed, withSuspended, atStart}
 use Rattle.round.specs.Jumps.{pastPartner, openingBefore, fromEnd}
 use Rattle.round.specs.Ticks.{fresh, begunAt, waitsFor, tickOf, tick, effectOn}
-use Rattle.round.specs.Rounds.{ticks, allDone, turn, pass, instant, Round, round}
+use Rattle.round.specs.Rounds.{ticks, allDone, turn, pass, instant, PlayedRound, round}
 use Rattle.round.specs.Answers.{marksIn}
 
 -- what is seen of a round: its passes, its marks, each a routine and a number, and behind it the routines and the counters of the book
@@ -47,12 +47,12 @@ pub record Row : Type 0 where
   pub book : List ℕ
   pub done : List Done
 
-abbrev pub seenIn : Round → Seen
+abbrev pub seenIn : PlayedRound → Seen
 seenIn p =
     let g = p .played .state .game in
     record {
       passes = p .passes;
-      marks = marksIn (p .played .told);
+      marks = marksIn (p .played .trace);
       routines = list.take (g .counts .routines) (g .routines);
       counters = list.take (g .counts .counters) (g .counters);
     }

@@ -12,14 +12,14 @@ use Rattle.lines.specs.Lines.{itemAt}
 use Rattle.numbers.specs.Counting.{allBelow}
 use Rattle.numbers.proofs.Tests.{clash}
 use Rattle.numbers.proofs.Below.{all-fails, all-next, all-ends}
-use Rattle.fitting.specs.Arrays.{firstOf, entryFits, Marks}
-use Rattle.fitting.proofs.Marks.{marks-none, marks-next, marks-all, entry-beyond, entry-twice, entry-new}
+use Rattle.fitting.specs.Arrays.{entriesBefore, entryFits, Flagged}
+use Rattle.fitting.proofs.Flagged.{flagged-none, flagged-next, flagged-all, entry-beyond, entry-twice, entry-new}
 use Rattle.fitting.proofs.arrays.entries_fit.Statement.{statement}
 use Rattle.fitting.proofs.arrays.entries_fit.Tie as tie
 
 abbrev Inv-loop : tie.InvT-loop
 Inv-loop routines seen₀ line len at₀ seen at =
-    (allBelow at (entryFits line routines) ≡ true) × (at ≤ line .len) × Marks seen (firstOf line at) × (length seen ≡ byteLimit)
+    (allBelow at (entryFits line routines) ≡ true) × (at ≤ line .len) × Flagged seen (entriesBefore line at) × (length seen ≡ byteLimit)
 
 abbrev μ-loop : tie.MeasureT-loop
 μ-loop routines seen₀ line len at₀ seen at = line .len - at
@@ -35,7 +35,7 @@ unfolding allBelow
 loop-holds c = (
   refl,
   search needs,
-  marks-none (c .args .t1) (c .args .seen .now) (c .pre .1),
+  flagged-none (c .args .t1) (c .args .seen .now) (c .pre .1),
   ap length (c .pre .1) ∙ length-replicate byteLimit false,
 )
 
@@ -59,7 +59,7 @@ loop-again c =
     let new = entry-new _ _ (i .loop-test .taken) (l .seen) (l .inv .2) (small i) (c .before .before .if1 .left) (c .if2 .left) in (
       all-next (entryFits _ _) (l .at) (l .inv .0) new,
       search needs,
-      marks-next (i .before .before .args .t1) (l .seen) (l .at) (omega arith) (omega (arith, small i)) (l .inv .2),
+      flagged-next (i .before .before .args .t1) (l .seen) (l .at) (omega arith) (omega (arith, small i)) (l .inv .2),
       search needs,
     )
 
@@ -67,7 +67,7 @@ returns-3 : tie.Need-returns-3 Inv-loop μ-loop
 returns-3 c =
     let l = c .before .loop in (
       sym (all-ends (entryFits _ _) (l .inv .0) (l .inv .1) (c .loop-test .left)),
-      λ _. marks-all _ (l .seen) (l .inv .1) (c .loop-test .left) (l .inv .2),
+      λ _. flagged-all _ (l .seen) (l .inv .1) (c .loop-test .left) (l .inv .2),
     )
 
 pub entries-fit-spec : {M : Type 1} → statement M

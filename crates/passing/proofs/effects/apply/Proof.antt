@@ -29,8 +29,8 @@ put-present-requires-2 c κs = rw (c .before .before .effect5 .given .1) at (c .
 
 put-pair-requires-2 : tie.Need-put-pair-requires-2
 put-pair-requires-2 c κs =
-    let told = c .before .before .before .before in
-    let below = rw (told .effect5 .given .1) at (told .before .before .pre .1 .0) in
+    let events = c .before .before .before .before in
+    let below = rw (events .effect5 .given .1) at (events .before .before .pre .1 .0) in
     omega arith
 
 start-requires : tie.Need-start-requires
@@ -47,10 +47,10 @@ returns c =
 returns-2 : tie.Need-returns-2
 unfolding marksPut
 returns-2 c =
-    let told = c .before .before .before .before in
-    let e = told .effect .given .1 in
-    let fits : SFits w32 (told .effect .given .0 .0) = search needs in
-    let whole = told .before .before .pre .0 in
+    let events = c .before .before .before .before in
+    let e = events .effect .given .1 in
+    let fits : SFits w32 (events .effect .given .0 .0) = search needs in
+    let whole = events .before .before .pre .0 in
     let put = c .before .put-pair .ensures in (
       λ g eoi. rw e (mark-held g _ _ _ _ _ eoi _ _),
       (still-whole whole refl refl (whole .startingFits) (whole .givenFits), rw (e, put .0, put .1, toZ-ofZ fits)),
@@ -59,18 +59,18 @@ returns-2 c =
 returns-3 : tie.Need-returns-3
 unfolding marksPut
 returns-3 c =
-    let told = c .before .before .before in
-    let e = told .effect2 .given .1 in
-    let fits : SFits w32 (told .effect2 .given .0 .1 .0) = search needs in
-    (λ g eoi. rw (e, c .put-counter .ensures, toZ-ofZ fits) (put-held g _ _ _ _ _ eoi _ _), (told .before .before .pre .0, rw e))
+    let events = c .before .before .before in
+    let e = events .effect2 .given .1 in
+    let fits : SFits w32 (events .effect2 .given .0 .1 .0) = search needs in
+    (λ g eoi. rw (e, c .put-counter .ensures, toZ-ofZ fits) (put-held g _ _ _ _ _ eoi _ _), (events .before .before .pre .0, rw e))
 
 returns-4 : tie.Need-returns-4
 unfolding marksPut
 returns-4 c =
-    let told = c .before .before .before .before in
-    let e = told .effect3 .given .1 in
-    let fits : SFits w32 (told .effect3 .given .0 .1 .0 .sum) = search needs in
-    (λ g eoi. rw (e, c .put-counter2 .ensures, toZ-ofZ fits) (add-held g _ _ _ _ _ eoi _ _), (told .before .before .pre .0, rw e))
+    let events = c .before .before .before .before in
+    let e = events .effect3 .given .1 in
+    let fits : SFits w32 (events .effect3 .given .0 .1 .0 .sum) = search needs in
+    (λ g eoi. rw (e, c .put-counter2 .ensures, toZ-ofZ fits) (add-held g _ _ _ _ _ eoi _ _), (events .before .before .pre .0, rw e))
 
 returns-5 : tie.Need-returns-5
 unfolding marksPut
@@ -85,10 +85,10 @@ returns-5 c =
 returns-6 : tie.Need-returns-6
 unfolding marksPut
 returns-6 c =
-    let told = c .before .before .before .before .before .before in
-    let e = told .effect5 .given .1 in
-    let fits : SFits w32 (told .effect5 .given .0 .1 .0) = search needs in
-    let p = told .before .before .pre in
+    let events = c .before .before .before .before .before .before in
+    let e = events .effect5 .given .1 in
+    let fits : SFits w32 (events .effect5 .given .0 .1 .0) = search needs in
+    let p = events .before .before .pre in
     let room = rw e at (p .1 .1) in
     let present = c .before .before .before .put-present2 .ensures in
     let put = c .before .put-pair2 .ensures in

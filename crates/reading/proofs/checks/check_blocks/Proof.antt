@@ -10,9 +10,9 @@ use lib.Dec.{ltb}
 use borrow.Author.Needs.{needs}
 use Rattle.numbers.specs.Choice.{if_then_else_}
 use Rattle.verdicts.specs.declared.Verdict.{Verdict}
-use Rattle.verdicts.specs.declared.Answer.{Answer}
-use Rattle.verdicts.specs.declared.Answer.the-variants.{Accepted, TooShort, WrongCount, WrongLayout, WrongEntry, WrongStep}
-use Rattle.verdicts.specs.declared.Answer.the-variants.{WrongNesting, WithoutPause}
+use Rattle.verdicts.specs.declared.BookAnswer.{BookAnswer}
+use Rattle.verdicts.specs.declared.BookAnswer.the-variants.{Accepted, TooShort, WrongCount, WrongLayout, WrongEntry, WrongStep}
+use Rattle.verdicts.specs.declared.BookAnswer.the-variants.{WrongNesting, WithoutPause}
 use Rattle.blocks.specs.declared.Fault.the-variants.{Unreadable, Misnested}
 use Rattle.blocks.specs.declared.Walk.{Walk}
 use Rattle.blocks.specs.declared.Walk.the-variants as walk
@@ -78,7 +78,7 @@ unfolding nestingVerdict pausingVerdict
 whole s e = rw e
 
 -- a kept answer is what is left where nothing is left to search
-kept-last : (a : Answer) → (verdictOf a orElse accepted) ≡ verdictOf a
+kept-last : (a : BookAnswer) → (verdictOf a orElse accepted) ≡ verdictOf a
 kept-last Accepted = refl
 kept-last TooShort = refl
 kept-last WrongCount = refl
@@ -88,7 +88,7 @@ kept-last (WrongStep i) = refl
 kept-last (WrongNesting i) = refl
 kept-last (WithoutPause i) = refl
 
-ends : (s : List ℕ) (all r : ℕ) (kept : Answer) → all ≤ r → verdictOf kept ≡ left-to-find s all r (verdictOf kept)
+ends : (s : List ℕ) (all r : ℕ) (kept : BookAnswer) → all ≤ r → verdictOf kept ≡ left-to-find s all r (verdictOf kept)
 ends s all r kept h = rw (first-ends (nestingAt s) all r h, first-ends (pausingAt s) all r h) (sym (kept-last kept))
 
 abbrev Inv-loop : tie.InvT-loop
@@ -132,7 +132,7 @@ loop-again c =
     let on =
     goes (book-of l) _ _ (verdictOf (l .loop .unpaused)) (call .before .before .loop-test .taken) (call .check-routine .ensures)
     (λ z. c .before .before .before .if1 .left (number ∙ z)) (λ z. c .before .if2 .left (number ∙ z)) in
-    (rw (c .first-answer .ensures) (on ∙ l .loop .inv .0), search needs)
+    (rw (c .first-book-answer .ensures) (on ∙ l .loop .inv .0), search needs)
 
 returns-3 : tie.Need-returns-3 Inv-loop μ-loop
 returns-3 c =

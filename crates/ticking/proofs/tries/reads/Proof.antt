@@ -20,7 +20,7 @@ returns c =
 returns-2 : tie.Need-returns-2
 returns-2 c =
     let left = c .before .before .before in
-    rw (← (left .before .find .ensures .0), le-ltb _ _ (left .if1 .left), ← (c .before .fresh .ensures)) (c .lacks .ensures)
+    rw (← (left .before .find .ensures .0), le-ltb _ _ (left .if1 .left), ← (c .before .fresh .ensures)) (c .when-missing .ensures)
 
 pub reads-spec : {M : Type 1} → statement M
 reads-spec =

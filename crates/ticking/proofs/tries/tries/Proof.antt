@@ -7,7 +7,7 @@ returns : tie.Need-returns
 returns c = rw (c .before .if1 .taken)
 
 returns-2 : tie.Need-returns-2
-returns-2 c = rw (c .before .if1 .left) (c .lacks .ensures)
+returns-2 c = rw (c .before .if1 .left) (c .when-missing .ensures)
 
 pub tries-spec : {M : Type 1} → statement M
 tries-spec = tie.close (tie.spec (λ c. search needs) (λ c κs. search needs) returns returns-2)

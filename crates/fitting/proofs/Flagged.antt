@@ -15,23 +15,23 @@ use Rattle.numbers.specs.Numbers.{byteLimit}
 use Rattle.numbers.specs.Counting.{anyBelow}
 use Rattle.lines.specs.declared.Line.{Line}
 use Rattle.lines.specs.Lines.{mostEntries, itemAt, isIn}
-use Rattle.fitting.specs.Arrays.{firstOf, entryFits, unmarked, Marks}
+use Rattle.fitting.specs.Arrays.{entriesBefore, entryFits, unflagged, Flagged}
 use Rattle.fitting.proofs.Lists.{used-all}
 
 module _ (l : Line) where
-  in-first : (n : ℕ) → n ≤ mostEntries → (r : ℕ) → isIn (firstOf l n) r ≡ anyBelow n (λ i. eqb (itemAt l i) r)
+  in-first : (n : ℕ) → n ≤ mostEntries → (r : ℕ) → isIn (entriesBefore l n) r ≡ anyBelow n (λ i. eqb (itemAt l i) r)
   unfolding isIn
-  in-first n h r = rw (used-all (firstOf l n) h)
+  in-first n h r = rw (used-all (entriesBefore l n) h)
 
-  pub marks-none : (seen : List Bool) → seen ≡ unmarked → Marks seen (firstOf l 0)
+  pub flagged-none : (seen : List Bool) → seen ≡ unflagged → Flagged seen (entriesBefore l 0)
   unfolding anyBelow
-  marks-none seen none r h = rw none (getD-replicate byteLimit r false false h ∙ sym (in-first 0 (omega arith) r))
+  flagged-none seen none r h = rw none (getD-replicate byteLimit r false false h ∙ sym (in-first 0 (omega arith) r))
 
-  pub marks-next :
-      (seen : List Bool) (n : ℕ) → n < mostEntries → itemAt l n < length seen → Marks seen (firstOf l n) →
-      Marks (set seen (itemAt l n) true) (firstOf l (n + 1))
+  pub flagged-next :
+      (seen : List Bool) (n : ℕ) → n < mostEntries → itemAt l n < length seen → Flagged seen (entriesBefore l n) →
+      Flagged (set seen (itemAt l n) true) (entriesBefore l (n + 1))
   unfolding anyBelow
-  marks-next seen n h inside so-far r small =
+  flagged-next seen n h inside so-far r small =
       rw (in-first (n + 1) (omega arith) r, add-one)
       (elim (ℕ-discrete (itemAt l n) r) [
         | yes e ↦ rw (← e, getD-set-same seen (itemAt l n) true false inside, eq-eqb (itemAt l n) (itemAt l n) refl, or-true)
@@ -40,8 +40,8 @@ module _ (l : Line) where
             (getD-set-other seen (itemAt l n) r true false (λ e. d (sym e)) ∙ so-far r small ∙ in-first n (omega arith) r)
       ])
 
-  pub marks-all : (seen : List Bool) {n : ℕ} → n ≤ l .len → l .len ≤ n → Marks seen (firstOf l n) → Marks seen l
-  marks-all seen {n} h k marks = let e : n ≡ l .len = omega arith in subst (λ (m : ℕ). Marks seen (firstOf l m)) e marks
+  pub flagged-all : (seen : List Bool) {n : ℕ} → n ≤ l .len → l .len ≤ n → Flagged seen (entriesBefore l n) → Flagged seen l
+  flagged-all seen {n} h k marks = let e : n ≡ l .len = omega arith in subst (λ (m : ℕ). Flagged seen (entriesBefore l m)) e marks
 
   -- entry i, behind the flags of those before it
   module _ (routines : ℕ) {i : ℕ} (used : i < l .len) where
@@ -49,7 +49,7 @@ module _ (l : Line) where
     unfolding entryFits
     entry-beyond h = rw (lt-ltb i (l .len) used, le-ltb (itemAt l i) routines h)
 
-    module _ (seen : List Bool) (marks : Marks seen (firstOf l i)) (small : itemAt l i < byteLimit) where
+    module _ (seen : List Bool) (marks : Flagged seen (entriesBefore l i)) (small : itemAt l i < byteLimit) where
       pub entry-twice : getD seen (itemAt l i) false ≡ true → entryFits l routines i ≡ false
       unfolding entryFits
       entry-twice h = rw (lt-ltb i (l .len) used, ← (marks (itemAt l i) small), h, and-false)

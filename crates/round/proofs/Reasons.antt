@@ -14,39 +14,41 @@ use Rattle.verdicts.specs.declared.Verdict.{Verdict}
 use Rattle.verdicts.specs.Verdicts.{accepted}
 use Rattle.book.specs.Accepted.{Accepted}
 use Rattle.verdicts.proofs.First.{orElse-told}
-use Rattle.book.proofs.Telling.{told-only}
+use Rattle.book.proofs.Reasons.{book-reason-only}
 use Rattle.game.specs.declared.Game.{Game}
 use Rattle.fitting.specs.Fits.{Fits}
-use Rattle.orders.proofs.Telling.{unfit-told, past-fit, by-fit}
+use Rattle.orders.proofs.Reasons.{unfit-told, past-fit, by-fit}
 use Rattle.round.specs.Rounds.{round}
 use Rattle.round.specs.Answers.{spaceFor, mostNumbers, roundVerdict, Answer, turnedDown, playedOut, answer}
-use Rattle.round.specs.claims.Tells.{numbersGiven, RoundTells}
-use Rattle.round.proofs.Given.{numbers-as-told}
+use Rattle.round.specs.claims.Reasons.{numbersGiven, RoundReason}
+use Rattle.round.proofs.Given.{numbers-in-trace}
 
-pub round-told-only :
-    {book : List ℕ} {g : Game} {buffer : List ℤ} {v : Verdict} → RoundTells book g buffer v → roundVerdict book g buffer ≡ v
+pub round-reason-only :
+    {book : List ℕ} {g : Game} {buffer : List ℤ} {v : Verdict} → RoundReason book g buffer v → roundVerdict book g buffer ≡ v
 unfolding roundVerdict
-round-told-only {book} (RoundTells.book t) = orElse-told _ _ (told-only book t)
-round-told-only {book} {g} (RoundTells.unfit a m) = unfit-told book g _ a m
-round-told-only {book} {g} (RoundTells.short a f h) = past-fit book g _ a f ∙ rw (lt-leb _ _ h)
-round-told-only {book} {g} (RoundTells.tooMany a f h m) = past-fit book g _ a f ∙ rw (le-leb _ _ h, numbers-as-told book g, lt-leb _ _ m)
-round-told-only {book} {g} (RoundTells.nothing a f h m) = past-fit book g _ a f ∙ rw (le-leb _ _ h, numbers-as-told book g, le-leb _ _ m)
+round-reason-only {book} (RoundReason.book t) = orElse-told _ _ (book-reason-only book t)
+round-reason-only {book} {g} (RoundReason.unfit a m) = unfit-told book g _ a m
+round-reason-only {book} {g} (RoundReason.short a f h) = past-fit book g _ a f ∙ rw (lt-leb _ _ h)
+round-reason-only {book} {g} (RoundReason.tooMany a f h m) =
+    past-fit book g _ a f ∙ rw (le-leb _ _ h, numbers-in-trace book g, lt-leb _ _ m)
+round-reason-only {book} {g} (RoundReason.nothing a f h m) =
+    past-fit book g _ a f ∙ rw (le-leb _ _ h, numbers-in-trace book g, le-leb _ _ m)
 
 module _ (book : List ℕ) (g : Game) (buffer : List ℤ) where
-  told : {v : Verdict} → RoundTells book g buffer v → RoundTells book g buffer (roundVerdict book g buffer)
-  told t = rw (round-told-only t) t
+  events : {v : Verdict} → RoundReason book g buffer v → RoundReason book g buffer (roundVerdict book g buffer)
+  events t = rw (round-reason-only t) t
 
-  by-numbers : Accepted book → Fits book g → spaceFor book ≤ length buffer → RoundTells book g buffer (roundVerdict book g buffer)
-  by-numbers a f h = elim (decLt mostNumbers (numbersGiven (round book g .played .told))) [
-    | yes m ↦ told (RoundTells.tooMany a f h m)
-    | no m ↦ told (RoundTells.nothing a f h (omega arith))
+  by-numbers : Accepted book → Fits book g → spaceFor book ≤ length buffer → RoundReason book g buffer (roundVerdict book g buffer)
+  by-numbers a f h = elim (decLt mostNumbers (numbersGiven (round book g .played .trace))) [
+    | yes m ↦ events (RoundReason.tooMany a f h m)
+    | no m ↦ events (RoundReason.nothing a f h (omega arith))
   ]
 
-  pub round-tells : RoundTells book g buffer (roundVerdict book g buffer)
-  round-tells =
-      by-fit book g (λ k p t. told (RoundTells.book t)) (λ a m. told (RoundTells.unfit a m)) (λ a f.
+  pub round-reason : RoundReason book g buffer (roundVerdict book g buffer)
+  round-reason =
+      by-fit book g (λ k p t. events (RoundReason.book t)) (λ a m. events (RoundReason.unfit a m)) (λ a f.
       elim (decLt (length buffer) (spaceFor book)) [
-        | yes h ↦ told (RoundTells.short a f h)
+        | yes h ↦ events (RoundReason.short a f h)
         | no h ↦ by-numbers a f (omega arith)
       ]
       )
@@ -72,13 +74,13 @@ module _ (book : List ℕ) (g : Game) (buffer : List ℤ) where
 abbrev pub Playable : List ℕ → Game → List ℤ → Type 0
 Playable book g buffer = Accepted book × Fits book g × (spaceFor book ≤ length buffer)
 
-told-playable :
-    {book : List ℕ} {g : Game} {buffer : List ℤ} {v : Verdict} → RoundTells book g buffer v → v .number ≡ 0 → Playable book g buffer
-told-playable (RoundTells.book t) e = absurd (omega arith)
-told-playable (RoundTells.unfit a m) e = absurd (omega arith)
-told-playable (RoundTells.short a f h) e = absurd (omega arith)
-told-playable (RoundTells.tooMany a f h m) e = absurd (omega arith)
-told-playable (RoundTells.nothing a f h m) e = (a, f, h)
+round-clauses :
+    {book : List ℕ} {g : Game} {buffer : List ℤ} {v : Verdict} → RoundReason book g buffer v → v .number ≡ 0 → Playable book g buffer
+round-clauses (RoundReason.book t) e = absurd (omega arith)
+round-clauses (RoundReason.unfit a m) e = absurd (omega arith)
+round-clauses (RoundReason.short a f h) e = absurd (omega arith)
+round-clauses (RoundReason.tooMany a f h m) e = absurd (omega arith)
+round-clauses (RoundReason.nothing a f h m) e = (a, f, h)
 
 -- an accepted round was playable and has been played
 pub accepted-played :
@@ -86,4 +88,4 @@ pub accepted-played :
     Playable book g buffer × (answer book g buffer ≡ playedOut (roundVerdict book g buffer) (round book g) buffer)
 accepted-played book g buffer e =
     let h = ap (λ (v : Verdict). v .number) (sym (answer-verdict book g buffer) ∙ e) in
-    (told-playable (round-tells book g buffer) h, played-out book g buffer h)
+    (round-clauses (round-reason book g buffer) h, played-out book g buffer h)

@@ -1,5 +1,5 @@
--- What is told: how many of the things that happened pass a test, what holds of each with what is told after it, and what comes by them.
--- By induction on what is told, and for what one step tells by the table of Acts.antt.
+-- Traces: how many of the events pass a test, what holds of each with the events after it, and what comes by them.
+-- By induction on the events, and for those of one step by the table of Acts.antt.
 use Prim.Native.Nat.{ℕ, _+_}
 use mathlib.Core.Path.{_≡_, refl}
 use mathlib.Core.Bool.{Bool, true, false}
@@ -14,7 +14,7 @@ use Rattle.kinds.specs.declared.Counts.{Counts}
 use Rattle.round.specs.declared.Ending.{Ending}
 use Rattle.round.specs.declared.Position.{Position}
 use Rattle.round.specs.declared.Effect.{Effect}
-use Rattle.round.specs.State.{State, Thing, signal, end, number, Happening, gave, ended, missing, past, marked}
+use Rattle.round.specs.State.{State, Thing, signal, end, number, Event, gave, ended, missing, past, marked}
 use Rattle.round.specs.claims.Demand.{givesSignal, endsRoutine, Comes, signalGiven, routineEnded, numberGiven}
 use Rattle.round.proofs.Acts.{Says, silent, marks, gives, givesNumber, finds, Stops, ends, rests, misses, continues}
 use Rattle.round.proofs.TurnLaws.{moves}
@@ -38,19 +38,19 @@ module _ {A : Type 0} (test : A → Bool) where
   pub none-of-both : (a b : List A) → howMany test a ≡ 0 → howMany test b ≡ 0 → howMany test (a ++ b) ≡ 0
   none-of-both a b h k = let both = many-append a b in omega arith
 
-  -- where nothing that passes a test is told, nothing is that would have to pass it
-  pub none-told :
-      (P : A → Type 0) → ((h : A) → P h → test h ≡ true) → (told : List A) → howMany test told ≡ 0 → Somewhere P told → ⊥
+  -- where no event passes a test, none is such that it would have to pass it
+  pub no-event :
+      (P : A → Type 0) → ((h : A) → P h → test h ≡ true) → (events : List A) → howMany test events ≡ 0 → Somewhere P events → ⊥
   unfolding howMany
-  none-told P passes (h ∷ told) e (inl p) = clash (passes h p) (none-of-all (test h) _ e .0)
-  none-told P passes (h ∷ told) e (inr p) = none-told P passes told (none-of-all (test h) _ e .1) p
+  no-event P passes (h ∷ events) e (inl p) = clash (passes h p) (none-of-all (test h) _ e .0)
+  no-event P passes (h ∷ events) e (inr p) = no-event P passes events (none-of-all (test h) _ e .1) p
 
--- what a step of routine r at position x tells
-module _ (test : Happening → Bool) {counts : Counts} {r : ℕ} {steps : List ℕ} {x : Position} {s : State} where
+-- the events of a step of routine r at position x
+module _ (test : Event → Bool) {counts : Counts} {r : ℕ} {steps : List ℕ} {x : Position} {s : State} where
   pub says-none :
       ((n : ℤ) → test (marked r n) ≡ false) → ((e k : ℕ) → test (gave e k) ≡ false) →
       ((t : Thing) → test (past r (x .place) t) ≡ false) →
-      {e : Effect} {told : List Happening} → Says counts r steps x s e told → howMany test told ≡ 0
+      {e : Effect} {events : List Event} → Says counts r steps x s e events → howMany test events ≡ 0
   unfolding howMany
   says-none mark give find (silent g o) = refl
   says-none mark give find (marks {n} h) = rw (mark n)
@@ -60,23 +60,23 @@ module _ (test : Happening → Bool) {counts : Counts} {r : ℕ} {steps : List �
 
   pub stops-none :
       test (ended r) ≡ false → ((t : Thing) → test (missing r (x .place) t) ≡ false) →
-      {how : Ending} {y : Position} {told : List Happening} → Stops counts r steps x s how y told → howMany test told ≡ 0
+      {how : Ending} {y : Position} {events : List Event} → Stops counts r steps x s how y events → howMany test events ≡ 0
   unfolding howMany
   stops-none over miss ends = rw over
   stops-none over miss rests = refl
   stops-none over miss (misses {t = t} a h e) = rw (miss t)
   stops-none over miss (continues {t} a h e) = rw (miss t)
 
-pub moves-append : (a b : List Happening) → moves (a ++ b) ≡ moves a + moves b
+pub moves-append : (a b : List Event) → moves (a ++ b) ≡ moves a + moves b
 moves-append a b = omega (arith, many-append givesSignal a b, many-append endsRoutine a b)
 
--- a claim on each thing that happened, with what is told after it
-abbrev pub EachWith : (Happening → List Happening → Type 0) → List Happening → Type 0
+-- a claim on each event, with the events after it
+abbrev pub EachWith : (Event → List Event → Type 0) → List Event → Type 0
 EachWith P [] = Unit {0}
-EachWith P (h ∷ told) = P h told × EachWith P told
+EachWith P (h ∷ events) = P h events × EachWith P events
 
 pub each-at :
-    (P : Happening → List Happening → Type 0) (before after : List Happening) (h : Happening) →
+    (P : Event → List Event → Type 0) (before after : List Event) (h : Event) →
     EachWith P (before ++ (h ∷ after)) → P h after
 each-at P [] after h all = all .0
 each-at P (x ∷ before) after h all = each-at P before after h (all .1)
@@ -88,16 +88,16 @@ isGiven (end r) = false
 isGiven (number e k) = true
 
 -- it comes with a signal given, and a routine's end with an end
-pub given-by-signals : {t : Thing} → isGiven t ≡ true → (h : Happening) → Comes t h → givesSignal h ≡ true
+pub given-by-signals : {t : Thing} → isGiven t ≡ true → (h : Event) → Comes t h → givesSignal h ≡ true
 given-by-signals g h signalGiven = refl
 given-by-signals g h routineEnded = clash g refl
 given-by-signals g h numberGiven = refl
 
-pub end-ends : {r : ℕ} (h : Happening) → Comes (end r) h → endsRoutine h ≡ true
+pub end-ends : {r : ℕ} (h : Event) → Comes (end r) h → endsRoutine h ≡ true
 end-ends h routineEnded = refl
 
 -- so where nothing moves, nothing comes
-pub nothing-comes : (t : Thing) (told : List Happening) → moves told ≡ 0 → Somewhere (Comes t) told → ⊥
-nothing-comes (signal e) told m = none-told givesSignal (Comes (signal e)) (given-by-signals refl) told (omega arith)
-nothing-comes (end r) told m = none-told endsRoutine (Comes (end r)) end-ends told (omega arith)
-nothing-comes (number e k) told m = none-told givesSignal (Comes (number e k)) (given-by-signals refl) told (omega arith)
+pub nothing-comes : (t : Thing) (events : List Event) → moves events ≡ 0 → Somewhere (Comes t) events → ⊥
+nothing-comes (signal e) events m = no-event givesSignal (Comes (signal e)) (given-by-signals refl) events (omega arith)
+nothing-comes (end r) events m = no-event endsRoutine (Comes (end r)) end-ends events (omega arith)
+nothing-comes (number e k) events m = no-event givesSignal (Comes (number e k)) (given-by-signals refl) events (omega arith)

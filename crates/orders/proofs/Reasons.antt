@@ -12,55 +12,55 @@ use Rattle.verdicts.specs.Verdicts.{refused, _orElse_}
 use Rattle.layout.specs.Layout.{countsOf}
 use Rattle.book.specs.Book.{bookVerdict}
 use Rattle.book.specs.Accepted.{Accepted}
-use Rattle.book.specs.Tells.{Tells}
+use Rattle.book.specs.Reasons.{BookReason}
 use Rattle.verdicts.proofs.First.{orElse-told}
-use Rattle.book.proofs.Telling.{tells, told-only, number-accepted}
+use Rattle.book.proofs.Reasons.{book-reason, book-reason-only, number-accepted}
 use Rattle.game.specs.declared.Game.{Game}
 use Rattle.fitting.specs.Fitting.{fitsBook, fitVerdict}
 use Rattle.fitting.specs.Fits.{Fits}
 use Rattle.fitting.proofs.Decides.{fits-decides}
 use Rattle.orders.specs.Orders.{orderCount, orderVerdict}
-use Rattle.orders.specs.Tells.{OrderTells}
+use Rattle.orders.specs.Reasons.{OrderReason}
 
 -- what an order and a round check first: "1 to 7, then 9"
 module _ (s : List ℕ) (g : Game) where
   pub unfit-told : (w : Verdict) → Accepted s → (Fits s g → ⊥) → (bookVerdict s orElse fitVerdict s g orElse w) ≡ refused 9 0
   unfit-told w a m =
       let unfit = not-true-false (fitsBook s g) (λ e. m (fits-decides s (a .laid .counts) g .0 e)) in
-      rw (told-only s (Tells.nothing a), unfit)
+      rw (book-reason-only s (BookReason.nothing a), unfit)
 
   pub past-fit : (w : Verdict) → Accepted s → Fits s g → (bookVerdict s orElse fitVerdict s g orElse w) ≡ w
-  past-fit w a f = rw (told-only s (Tells.nothing a), fits-decides s (a .laid .counts) g .1 f)
+  past-fit w a f = rw (book-reason-only s (BookReason.nothing a), fits-decides s (a .laid .counts) g .1 f)
 
   -- a claim follows if it does from a refusal of the book, from a game that does not fit it, and from one that does
-  by-book : {P : Type 0} {k p : ℕ} → (k ≡ 0 → Accepted s) → Tells s k p → ((j : ℕ) → Tells s (suc j) p → P) → (Accepted s → P) → P
+  by-book : {P : Type 0} {k p : ℕ} → (k ≡ 0 → Accepted s) → BookReason s k p → ((j : ℕ) → BookReason s (suc j) p → P) → (Accepted s → P) → P
   by-book {k = zero} accepts t refusal acceptance = acceptance (accepts refl)
   by-book {k = suc k} accepts t refusal acceptance = refusal k t
 
   pub by-fit :
-      {P : Type 0} → ((k p : ℕ) → Tells s (suc k) p → P) → (Accepted s → (Fits s g → ⊥) → P) → (Accepted s → Fits s g → P) → P
+      {P : Type 0} → ((k p : ℕ) → BookReason s (suc k) p → P) → (Accepted s → (Fits s g → ⊥) → P) → (Accepted s → Fits s g → P) → P
   by-fit refusal unfit fits =
-      by-book (number-accepted s) (tells s) (λ k t. refusal k _ t) (λ a.
+      by-book (number-accepted s) (book-reason s) (λ k t. refusal k _ t) (λ a.
       let fitting = fits-decides s (a .laid .counts) g in
       by-flag (fitsBook s g) (λ h. fits a (fitting .0 h)) (λ h. unfit a (λ f. clash (fitting .1 f) h)))
 
-pub order-told-only : {s : List ℕ} {g : Game} {kind n : ℕ} {v : Verdict} → OrderTells s g kind n v → orderVerdict s g kind n ≡ v
+pub order-reason-only : {s : List ℕ} {g : Game} {kind n : ℕ} {v : Verdict} → OrderReason s g kind n v → orderVerdict s g kind n ≡ v
 unfolding orderVerdict
-order-told-only {s} (OrderTells.book t) = orElse-told _ _ (told-only s t)
-order-told-only {s} {g} (OrderTells.unfit a m) = unfit-told s g _ a m
-order-told-only {s} {g} {n = n} (OrderTells.unknown a f h) = past-fit s g _ a f ∙ rw (le-ltb n _ h)
-order-told-only {s} {g} {n = n} (OrderTells.nothing a f h) = past-fit s g _ a f ∙ rw (lt-ltb n _ h)
+order-reason-only {s} (OrderReason.book t) = orElse-told _ _ (book-reason-only s t)
+order-reason-only {s} {g} (OrderReason.unfit a m) = unfit-told s g _ a m
+order-reason-only {s} {g} {n = n} (OrderReason.unknown a f h) = past-fit s g _ a f ∙ rw (le-ltb n _ h)
+order-reason-only {s} {g} {n = n} (OrderReason.nothing a f h) = past-fit s g _ a f ∙ rw (lt-ltb n _ h)
 
 module _ (s : List ℕ) (g : Game) (kind n : ℕ) where
-  told : {v : Verdict} → OrderTells s g kind n v → OrderTells s g kind n (orderVerdict s g kind n)
-  told t = rw (order-told-only t) t
+  told : {v : Verdict} → OrderReason s g kind n v → OrderReason s g kind n (orderVerdict s g kind n)
+  told t = rw (order-reason-only t) t
 
-  pub order-tells : OrderTells s g kind n (orderVerdict s g kind n)
-  order-tells =
-      by-fit s g (λ k p t. told (OrderTells.book t)) (λ a m. told (OrderTells.unfit a m)) (λ a f.
+  pub order-reason : OrderReason s g kind n (orderVerdict s g kind n)
+  order-reason =
+      by-fit s g (λ k p t. told (OrderReason.book t)) (λ a m. told (OrderReason.unfit a m)) (λ a f.
       elim (decLt n (orderCount (countsOf s) kind)) [
-        | yes h ↦ told (OrderTells.nothing a f h)
-        | no h ↦ told (OrderTells.unknown a f (omega arith))
+        | yes h ↦ told (OrderReason.nothing a f h)
+        | no h ↦ told (OrderReason.unknown a f (omega arith))
       ]
       )
 
@@ -68,8 +68,8 @@ module _ (s : List ℕ) (g : Game) (kind n : ℕ) where
 abbrev pub Right : List ℕ → Game → ℕ → ℕ → Type 0
 Right s g kind n = Accepted s × Fits s g × (n < orderCount (countsOf s) kind)
 
-pub told-right : {s : List ℕ} {g : Game} {kind n : ℕ} {v : Verdict} → OrderTells s g kind n v → v .number ≡ 0 → Right s g kind n
-told-right (OrderTells.book t) e = absurd (omega arith)
-told-right (OrderTells.unfit a m) e = absurd (omega arith)
-told-right (OrderTells.unknown a f h) e = absurd (omega arith)
-told-right (OrderTells.nothing a f h) e = (a, f, h)
+pub order-clauses : {s : List ℕ} {g : Game} {kind n : ℕ} {v : Verdict} → OrderReason s g kind n v → v .number ≡ 0 → Right s g kind n
+order-clauses (OrderReason.book t) e = absurd (omega arith)
+order-clauses (OrderReason.unfit a m) e = absurd (omega arith)
+order-clauses (OrderReason.unknown a f h) e = absurd (omega arith)
+order-clauses (OrderReason.nothing a f h) e = (a, f, h)

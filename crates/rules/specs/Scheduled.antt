@@ -23,7 +23,7 @@ stageOf k =
 
 -- "Signals and numbers of a round are not kept in the game."
 abbrev pub nothingPresent : Current
-nothingPresent = record { events = []; terms = []; values = []; eoi = false; move = false }
+nothingPresent = record { signals = []; terms = []; values = []; eoi = false; move = false }
 
 -- between two rounds
 abbrev pub schedulerOf : Game → List (ℕ × ℤ) → Scheduler
@@ -44,8 +44,8 @@ schedulerOf g marks =
     }
 
 -- within a round
-unfoldable pub view : State → List (ℕ × ℤ) → Scheduler
-view s marks =
+unfoldable pub schedulerIn : State → List (ℕ × ℤ) → Scheduler
+schedulerIn s marks =
     withCurrent (schedulerOf (s .game) marks) (
-    record { events = s .present; terms = s .endSignals; values = s .numbers; eoi = s .eoi; move = s .moved }
+    record { signals = s .present; terms = s .endSignals; values = s .numbers; eoi = s .eoi; move = s .moved }
     )
