@@ -107,7 +107,7 @@ module _ (book : List ℕ) where
         let e : how ≡ Continued = cc in
         let on : isGoing (turn book r s .state) r ≡ true = after ∙ ap (λ h. not (isDone (Took h))) e in
         let c = turn-continues book a r s l going on .1 in
-        let w = c .lacks in
+        let w = c .halt in
         record {
           place = w .place;
           thing = w .thing;

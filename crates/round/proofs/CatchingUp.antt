@@ -142,7 +142,7 @@ module _ {book : List ℕ} {Listed : ℕ → Type 0} {Ok : State → Type 0} (la
             isGoing (turn book r s .state) r ≡ true → ToBeContinued book r (turn book r s .state) (turn book r s .trace) →
             Caught (turn book r s .trace ++ b)
         missed h x =
-            let w = x .lacks in
+            let w = x .halt in
             let last = missing r (w .place) (w .thing) in
             subst (λ (a : List Event). Caught (a ++ b)) (sym (x .trace))
             (subst Caught (sym (append-assoc (x .before) (last ∷ []) b))

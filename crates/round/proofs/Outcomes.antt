@@ -61,7 +61,7 @@ module _ (book : List ℕ) (a : Accepted book) where
         let there = position-after r s all (untouched .standings r) going ∙ position in (
           sym (untouched .eoi) ∙ unclosed,
           record {
-            lacks =
+            halt =
                 record {
                   place = shape .last .place;
                   thing = thing;

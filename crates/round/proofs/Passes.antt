@@ -14,7 +14,7 @@ use Rattle.round.specs.claims.Demand.{CatchesUp}
 use Rattle.round.specs.claims.Enough.{RoundEnds}
 use Rattle.round.proofs.Traces.{moves-append, nothing-comes}
 use Rattle.round.proofs.Asking.{asks-once}
-use Rattle.round.proofs.TurnLaws.{isGoing, moves, Waits, WasMissing, TurnLaws}
+use Rattle.round.proofs.TurnLaws.{isGoing, moves, Waits, WaitsForMissing, TurnLaws}
 use Rattle.round.proofs.Waiting.{pass-stays, moved-pass, done-pass}
 use Rattle.round.proofs.Closing.{all-stuck, closing-pass}
 use Rattle.round.proofs.CatchingUp.{Caught, catches, quiet-caught, Owed, owed-next-pass, caught-pass}
@@ -50,8 +50,8 @@ module _
         ))
 
     -- a routine that lacks its thing waits for no other
-    lacking : (s : State) (r p : ℕ) (t : Thing) → Waits book s r p t → WasMissing book s r → isThere s t ≡ true → ⊥
-    lacking s r p t w x h = clash h (ap (isThere s) (asks-once (w .asks .0) (x .waits .asks .0)) ∙ x .missed)
+    not-there : (s : State) (r p : ℕ) (t : Thing) → Waits book s r p t → WaitsForMissing book s r → isThere s t ≡ true → ⊥
+    not-there s r p t w x h = clash h (ap (isThere s) (asks-once (w .asks .0) (x .waits .asks .0)) ∙ x .missed)
 
     -- the same of the passes from a state on, in what is owed
     record Fair (s : State) (R : PlayedRound) : Type 0 where
@@ -100,7 +100,7 @@ module _
           (λ r i. done-pass laws L listed (forNextPass p) ok done r (inl i))
           (λ r q t i g a c.
           elim c [
-            | inl there ↦ absurd (lacking p r q t a (all-stuck laws L listed s k w r i g) there)
+            | inl there ↦ absurd (not-there p r q t a (all-stuck laws L listed s k w r i g) there)
             | inr comes ↦ absurd (nothing-comes t events quiet comes)
           ])
           (quiet-caught events quiet)

@@ -31,17 +31,17 @@ module _ (x : Position) (k : ℕ) where
       if isPast then Goes (x .place + 1) Nothing else if pausing then Halts how (begunAt (x .place) (k - 1)) else Halts Continued x
 
   -- rules 25 to 29 have that shape
-  waiting : (there none closing : Bool) (found lacking : List Event) →
+  waiting : (there none closing : Bool) (found missed : List Event) →
       (if none && not there
       then tickWith (Goes (x .place + 1) Nothing) []
       else if there
       then tickWith (Goes (x .place + 1) Nothing) found
-      else tickWith (if closing then Halts Missed (begunAt (x .place) (k - 1)) else Halts Continued x) lacking) .act
+      else tickWith (if closing then Halts Missed (begunAt (x .place) (k - 1)) else Halts Continued x) missed) .act
       ≡ shape (there || none) closing Missed
-  waiting true true closing found lacking = refl
-  waiting true false closing found lacking = refl
-  waiting false true closing found lacking = refl
-  waiting false false closing found lacking = refl
+  waiting true true closing found missed = refl
+  waiting true false closing found missed = refl
+  waiting false true closing found missed = refl
+  waiting false false closing found missed = refl
 
 module _ (r : ℕ) (steps : List ℕ) (x : Position) (s : State) where
   by-shape :

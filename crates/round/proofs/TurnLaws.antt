@@ -89,7 +89,7 @@ module _ (book : List ℕ) where
   waits-too r p t u v same waits = rw (waits .place) at (waits-at v r same (waits .asks))
 
   -- it waits for a thing that is not there
-  pub record WasMissing (s : State) (r : ℕ) : Type 0 where
+  pub record WaitsForMissing (s : State) (r : ℕ) : Type 0 where
     pub place : ℕ
     pub thing : Thing
     pub waits : Waits s r place thing
@@ -97,9 +97,9 @@ module _ (book : List ℕ) where
 
   -- a turn that is to be continued: it ends at a step whose thing is missing, and everything before went on
   pub record ToBeContinued (r : ℕ) (u : State) (events : List Event) : Type 0 where
-    pub lacks : WasMissing u r
+    pub halt : WaitsForMissing u r
     pub before : List Event
-    pub trace : events ≡ before ++ (missing r (lacks .place) (lacks .thing) ∷ [])
+    pub trace : events ≡ before ++ (missing r (halt .place) (halt .thing) ∷ [])
     pub calm : howMany isMiss before ≡ 0
 
   pub record TurnLaws (Listed : ℕ → Type 0) (Ok : State → Type 0) : Type 0 where

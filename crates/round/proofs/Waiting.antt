@@ -17,7 +17,7 @@ use Rattle.round.specs.State.{State, Event}
 use Rattle.round.specs.Rounds.{PlayedTurns, followedBy, isDone, allDone, turn, pass}
 use Rattle.round.proofs.Along.{pass-along}
 use Rattle.round.proofs.Traces.{moves-append, nothing-comes}
-use Rattle.round.proofs.TurnLaws.{isGoing, moves, Passed, passed-same, others-going, waits-too, WasMissing, TurnLaws}
+use Rattle.round.proofs.TurnLaws.{isGoing, moves, Passed, passed-same, others-going, waits-too, WaitsForMissing, TurnLaws}
 
 pub done-append : (a b : List Turn) → allDone (a ++ b) ≡ (allDone a && allDone b)
 unfolding allDone
@@ -38,7 +38,7 @@ passed-then s u v a b x y =
 
 -- a routine is stuck if it waits for a thing that is not there, where it is still going
 abbrev pub Stuck : List ℕ → State → ℕ → Type 0
-Stuck book s r = isGoing s r ≡ true → WasMissing book s r
+Stuck book s r = isGoing s r ≡ true → WaitsForMissing book s r
 
 module _ {book : List ℕ} {Listed : ℕ → Type 0} {Ok : State → Type 0} (laws : TurnLaws book Listed Ok) where
   stays-passed :
@@ -120,7 +120,7 @@ module _ {book : List ℕ} {Listed : ℕ → Type 0} {Ok : State → Type 0} (la
       (λ r q s l k n d g. others-going (laws .turned r s l k) q n ∙ g)
 
   pub stuck-own : (r : ℕ) (s : State) → Listed r → Ok s → Stuck book (turn book r s .state) r
-  stuck-own r s l k g = laws .continues r s l k (was-going r s l k g) g .1 .lacks
+  stuck-own r s l k g = laws .continues r s l k (was-going r s l k g) g .1 .halt
 
   pub stuck-other :
       (r q : ℕ) (s : State) → Listed r → Ok s → q ≢ r → moves (turn book r s .trace) ≡ 0 → Stuck book s q →

@@ -84,11 +84,11 @@ pub data Thing : Type 0 where
   end : ℕ → Thing
   number : ℕ → ℕ → Thing
 
--- An event of a round. A trace, the events in order, is kept beside the state, which does not depend on it: a step gives a signal, with its
--- k-th number or, for k = 0, with none; a routine ends; a routine's try at a place finds a thing missing, or finds it and goes past; a
--- routine writes a mark; a routine completes the step at a place, so that its turn goes on behind it. Of a step that is completed this
--- comes first, and then what else happens in it. A step that halts the turn is not completed: a rest, a step whose thing is missing, the
--- routine's end.
+-- An event of a round is something that happens in it (the paper's event is a signal here). A trace, the events in order, is kept beside
+-- the state, which does not depend on it: a step gives a signal, with its k-th number or, for k = 0, with none; a routine ends; a
+-- routine's try at a place finds a thing missing, or finds it and goes past; a routine writes a mark; a routine completes the step at a
+-- place, so that its turn goes on behind it. Of a step that is completed this comes first, and then what else happens in it. A step that
+-- halts the turn is not completed: a rest, a step whose thing is missing, the routine's end.
 pub data Event : Type 0 where
   gave : ℕ → ℕ → Event
   ended : ℕ → Event

@@ -54,7 +54,7 @@ pub round-by-the-rules :
 unfolding between schedulerIn
 round-by-the-rules book g buffer e =
     let ((a, fits, space), played) = accepted-played book g buffer e in
-    let (run, log, given, passes, stands, positions) =
+    let (run, log, derived, passes, stands, positions) =
     round-given book a (threadsOf book a g) (between g) [] fits (threads-stand book a g) in
     let last = round book g .played .state in
     let marks = marksIn (round book g .played .trace) in
@@ -65,14 +65,16 @@ round-by-the-rules book g buffer e =
       schedulerIn last marks,
       rw played (
           record {
+            lentFits = fits;
+            longEnough = space;
             verdict = rw played at e;
-            given = given;
+            derived = derived;
             passes = passes;
-            game = refl;
+            scheduler = refl;
             positions = positions;
             stands = stands;
             fits = round-fits book a g fits;
-            counted = refl;
+            markCount = refl;
             buffered = written-marks marks (drop (numbersPerMark * length marks) buffer);
             beyond = written-beyond marks (drop (numbersPerMark * length marks) buffer);
             sameLength = written-length marks buffer room;

@@ -13,7 +13,7 @@ use Rattle.round.specs.Actions.{atStart}
 use Rattle.round.proofs.Listing.{joined-entries}
 use Rattle.round.proofs.Actions.{at-start-entries}
 use Rattle.rules.specs.Schedulers.{continuing}
-use Rattle.rules.specs.Instants.{allAt, chained, unmoved}
+use Rattle.rules.specs.Instants.{allAt, chained, withMoveClear}
 use Rattle.rules.specs.Scheduled.{schedulerIn}
 use Rattle.rules.proofs.Actions.{status₃, actual₆, order-same, status-same, flag-cleared, suspended-same, ends-same}
 
@@ -23,7 +23,7 @@ none-same {B = B} b (x ∷ l) = ap (λ (m : List B). b ∷ m) (none-same b l)
 
 pub chains :
     (book : List ℕ) (s : State) (ms : List (ℕ × ℤ)) → CountsInRange book → Fits book (s .game) →
-    unmoved (chained (schedulerIn s ms)) ≡ schedulerIn (atStart (s .game)) ms
+    withMoveClear (chained (schedulerIn s ms)) ≡ schedulerIn (atStart (s .game)) ms
 unfolding chained schedulerIn atStart
 chains book s ms range f =
     let g = s .game in

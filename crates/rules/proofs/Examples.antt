@@ -1,16 +1,13 @@
 -- Whatever answer the rules give is the definition's answer, which is evaluated.
 use mathlib.Core.Path.{ap, _∙_}
 use Rattle.game.specs.Game.{routineAt}
-use Rattle.round.specs.Answers.{Answer, answer}
+use Rattle.round.specs.Answers.{Answer}
 use Rattle.round.specs.examples.Examples.{first, marksInBoth, roomForTwo, as-told}
 use Rattle.rules.specs.Examples.{StandsInFirstBlock}
-use Rattle.rules.proofs.Adequacy.{round-by-the-rules}
-use Rattle.rules.proofs.OneAnswer.{same-answer}
+use Rattle.rules.proofs.OneAnswer.{only-answer}
 
 pub stands-in-first-block : StandsInFirstBlock
 stands-in-first-block x given =
     let g = first marksInBoth in
-    let (_, _, _, _, _, _, taken, place, _, _) = as-told in
-    let own = round-by-the-rules marksInBoth g roomForTwo taken in
-    let same = same-answer marksInBoth g roomForTwo x (answer marksInBoth g roomForTwo) given own in
-    ap (λ (y : Answer). routineAt (y .game) 0 .place) same ∙ place
+    let (_, _, _, _, _, _, place, _, _) = as-told in
+    ap (λ (y : Answer). routineAt (y .game) 0 .place) (only-answer marksInBoth g roomForTwo x given) ∙ place

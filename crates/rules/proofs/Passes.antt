@@ -48,12 +48,12 @@ use Rattle.round.proofs.After.{pass-keeps}
 use Rattle.round.proofs.Waiting.{done-append}
 use Rattle.rules.specs.Instructions.{Status, Instruction}
 use Rattle.rules.specs.Schedulers.{continuing, Scheduler, has, statusOf}
-use Rattle.rules.specs.Instants.{runs, Execution, skipped, executed, isFinished, rule33, rule34, StepLog, allFinished, InTurn, none}
-use Rattle.rules.specs.Instants.{next, ExecutionStep, rule35, rule36, Log, rule37, rule38}
+use Rattle.rules.specs.Instants.{runs, Execution, passedOver, executed, isFinished, rule33, rule34, StepLog, allFinished, InTurn}
+use Rattle.rules.specs.Instants.{none, next, ExecutionStep, rule35, rule36, Log, rule37, rule38}
 use Rattle.rules.specs.Positions.{lastIn, lastOf}
 use Rattle.rules.specs.Residual.{residual, _⇝_}
 use Rattle.rules.specs.Scheduled.{schedulerIn}
-use Rattle.rules.specs.Claims.{Stands, TurnRule, PassRule, InstantRule}
+use Rattle.rules.specs.Claims.{Stands, TurnByRules, PassByRules, InstantByRules}
 use Rattle.rules.proofs.Naming.{given}
 use Rattle.rules.proofs.Walks.{Marks, Shows, endsAs, restsAs, missesAs, continuesAs}
 use Rattle.rules.proofs.Taken.{marks-then, ends-of}
@@ -124,7 +124,7 @@ module _ (book : List ℕ) (a : Accepted book) where
         -- a rule gives the turn d, and leaves routine r where its thread's execution says
         abbrev ByRule : PlayedTurns → Type 0
         ByRule d =
-            (run′ : ℕ → Instruction) × (e : Execution) × TurnRule book a run s ms run′ r d e × Behind book r e (s .game) (d .state .game)
+            (run′ : ℕ → Instruction) × (e : Execution) × TurnByRules book a run s ms run′ r d e × Behind book r e (s .game) (d .state .game)
 
         turn-over-rule : isGoing s r ≡ false → ByRule (notTaken s)
         unfolding allDone marksIn
@@ -135,7 +135,7 @@ module _ (book : List ℕ) (a : Accepted book) where
               | inr e ↦ inr (λ c. stage-pauses (x .stage) e (sym (stage-seen s ms r) ∙ c))
             ]
             in
-            (run, skipped, record { derived = rw append-nil (rule33 why); finished = refl; stands = stand }, same-standing)
+            (run, passedOver, record { derived = rw append-nil (rule33 why); finished = refl; stands = stand }, same-standing)
 
         turn-taken-rule : isGoing s r ≡ true → ByRule (taken r t)
         turn-taken-rule going =
@@ -158,10 +158,16 @@ module _ (book : List ℕ) (a : Accepted book) where
                   (after-going r s t standing going),
             )
 
-        pub turn-by-rules :
-            (run′ : ℕ → Instruction) × (e : Execution) × TurnRule book a run s ms run′ r (turn book r s) e
+        turn-given :
+            (run′ : ℕ → Instruction) × (e : Execution) × TurnByRules book a run s ms run′ r (turn book r s) e
             × Behind book r e (s .game) (turn book r s .state .game)
-        turn-by-rules = turn-by book r s ByRule turn-over-rule turn-taken-rule
+        turn-given = turn-by book r s ByRule turn-over-rule turn-taken-rule
+
+  -- a turn, without where it leaves its routine
+  pub turn-by-rules :
+      (r : ℕ) → r < R → (run : ℕ → Instruction) (s : State) (ms : Marks) → Stands book a run (s .game) → Sound book s →
+      (run′ : ℕ → Instruction) × (e : Execution) × TurnByRules book a run s ms run′ r (turn book r s) e
+  turn-by-rules r l run s ms stand sound = let (to, e, rule, _) = turn-given r l run s stand sound ms in (to, e, rule)
 
   -- each routine stands behind some turns where their log says
   abbrev AllBehind : StepLog → Game → Game → Type 0
@@ -170,7 +176,7 @@ module _ (book : List ℕ) (a : Accepted book) where
   -- a turn leaves the others alone
   turn-behind :
       (r : ℕ) → r < R → (s : State) → Sound book s → (e : Execution) → Behind book r e (s .game) (turn book r s .state .game) →
-      (q : ℕ) → Behind book q (if eqb r q then e else skipped) (s .game) (turn book r s .state .game)
+      (q : ℕ) → Behind book q (if eqb r q then e else passedOver) (s .game) (turn book r s .state .game)
   turn-behind r l s sound e own q = elim (ℕ-discrete q r) [
     | yes same ↦
         rw (eq-eqb r q (sym same)) (subst (λ q. Behind book q e (s .game) (turn book r s .state .game)) (sym same) own)
@@ -189,7 +195,7 @@ module _ (book : List ℕ) (a : Accepted book) where
   turns-by-rules (r ∷ rs) b run s ms stand sound =
       let first = turn book r s in
       let sound-first = turn-sound book a r s (b .0) sound in
-      let (to, e, rule, own) = turn-by-rules r (b .0) run s stand sound ms in
+      let (to, e, rule, own) = turn-given r (b .0) run s stand sound ms in
       let (last, l, others, done, stand-last, behind) =
       turns-by-rules rs (b .1) to (first .state) (ms ++ marksIn (first .trace)) (rule .stands) sound-first in (
         last,
@@ -204,40 +210,45 @@ module _ (book : List ℕ) (a : Accepted book) where
   abbrev listed : State → List ℕ
   listed s = entriesOf (s .game .listed)
 
-  pub pass-by-rules :
+  pass-given :
       (run : ℕ → Instruction) (s : State) (ms : Marks) → Stands book a run (s .game) → Sound book s →
       let d = pass book (entriesOf (s .game .listed)) s in
-      (run′ : ℕ → Instruction) × (l : StepLog) × PassRule book a run s ms run′ d l × AllBehind l (s .game) (d .state .game)
-  pass-by-rules run s ms stand sound =
+      (run′ : ℕ → Instruction) × (l : StepLog) × PassByRules book a run s ms run′ d l × AllBehind l (s .game) (d .state .game)
+  pass-given run s ms stand sound =
       let (to, l, rule, done, stands, behind) = turns-by-rules (listed s) (listed-below sound) run s ms stand sound in
       (to, l, record { derived = execution (actual-seen s ms) rule; finished = done; stands = stands }, behind)
 
-  pub instant-by-rules :
+  pub pass-by-rules :
+      (run : ℕ → Instruction) (s : State) (ms : Marks) → Stands book a run (s .game) → Sound book s →
+      (run′ : ℕ → Instruction) × (l : StepLog) × PassByRules book a run s ms run′ (pass book (entriesOf (s .game .listed)) s) l
+  pass-by-rules run s ms stand sound = let (to, l, rule, _) = pass-given run s ms stand sound in (to, l, rule)
+
+  pub instant-given :
       (n : ℕ) (run : ℕ → Instruction) (s : State) (ms : Marks) → Stands book a run (s .game) → Sound book s →
       RoundEnds book n (entriesOf (s .game .listed)) s →
       let d = instant book n (entriesOf (s .game .listed)) s in
-      (run′ : ℕ → Instruction) × (log : Log) × InstantRule book a run s ms run′ d log
+      (run′ : ℕ → Instruction) × (log : Log) × InstantByRules book a run s ms run′ d log
       × ((q : ℕ) → q < R → Behind book q (lastOf q log) (s .game) (d .played .state .game))
   unfolding instant RoundEnds lastOf
-  instant-by-rules zero run s ms stand sound ends = absurd ends
-  instant-by-rules (suc n) run s ms stand sound (inl done) =
-      let (to, l, rule, behind) = pass-by-rules run s ms stand sound in
+  instant-given zero run s ms stand sound ends = absurd ends
+  instant-given (suc n) run s ms stand sound (inl done) =
+      let (to, l, rule, behind) = pass-given run s ms stand sound in
       rw done (
         to,
         l ∷ [],
         record { derived = rule37 (rule .derived) (rule .finished ∙ done); passes = refl; stands = rule .stands },
         behind,
       )
-  instant-by-rules (suc n) run s ms stand sound (inr (undone, ends)) =
+  instant-given (suc n) run s ms stand sound (inr (undone, ends)) =
       let rs = listed s in
       let first = pass book rs s in
       let u = forNextPass (first .state) in
       let (sound-last, kept) = pass-keeps book a rs (listed-below sound) s sound in
       let same : listed u ≡ rs = ap (λ l. entriesOf l) (kept .listed) in
       let sound-again = next-pass-sound (first .state) sound-last in
-      let (to, l, rule, behind) = pass-by-rules run s ms stand sound in
+      let (to, l, rule, behind) = pass-given run s ms stand sound in
       let flags = next-pass-seen (first .state) (ms ++ marksIn (first .trace)) in
-      given (rw same at (instant-by-rules n to u (ms ++ marksIn (first .trace)) (rule .stands) sound-again (rw same ends)))
+      given (rw same at (instant-given n to u (ms ++ marksIn (first .trace)) (rule .stands) sound-again (rw same ends)))
       (λ (last, log, others, later).
       rw undone (
         last,
@@ -249,3 +260,9 @@ module _ (book : List ℕ) (a : Accepted book) where
         },
         λ q m. behind-then book q (lastIn q l) (lastOf q log) (s .game) (first .state .game) _ (behind q m) (later q m),
       ))
+
+  pub instant-by-rules :
+      (n : ℕ) (run : ℕ → Instruction) (s : State) (ms : Marks) → Stands book a run (s .game) → Sound book s →
+      RoundEnds book n (entriesOf (s .game .listed)) s →
+      (run′ : ℕ → Instruction) × (log : Log) × InstantByRules book a run s ms run′ (instant book n (entriesOf (s .game .listed)) s) log
+  instant-by-rules n run s ms stand sound ends = let (to, log, rule, _) = instant-given n run s ms stand sound ends in (to, log, rule)

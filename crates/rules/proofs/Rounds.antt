@@ -1,5 +1,5 @@
--- A round is what the paper has for it, one chaining step and then one instant, whatever signals and numbers an earlier round left; and
--- it is the only one. The chaining step is the eight actions, which leave every routine where it stands; the passes are an instant.
+-- A round is what the paper has for it, one chaining step and then one instant, whatever signals and numbers an earlier round left. The
+-- chaining step is the eight actions, which leave every routine where it stands; the passes are an instant.
 use Prim.Native.Nat.{ℕ, _<_}
 use mathlib.Core.Path.{_≡_}
 use mathlib.Core.Bool.{false}
@@ -28,12 +28,11 @@ use Rattle.rules.specs.Instructions.{Instruction}
 use Rattle.rules.specs.Instants.{Log, Round}
 use Rattle.rules.specs.Positions.{lastOf, LeftBy}
 use Rattle.rules.specs.Scheduled.{schedulerIn}
-use Rattle.rules.specs.Claims.{Gives, Stands}
+use Rattle.rules.specs.Claims.{Stands}
 use Rattle.rules.proofs.Walks.{Marks}
-use Rattle.rules.proofs.Determined.{instant-determined}
 use Rattle.rules.proofs.Chaining.{chains}
 use Rattle.rules.proofs.Left.{left-at}
-use Rattle.rules.proofs.Passes.{instant-by-rules}
+use Rattle.rules.proofs.Passes.{instant-given}
 
 module _ (book : List ℕ) (a : Accepted book) where
   -- the eight actions leave every routine where it stands
@@ -54,7 +53,7 @@ module _ (book : List ℕ) (a : Accepted book) where
       (run : ℕ → Instruction) (s : State) (ms : Marks) (f : Fits book (s .game)) → Stands book a run (s .game) →
       let d = round book (s .game) in
       (run′ : ℕ → Instruction) × (log : Log)
-      × Gives run (schedulerIn s ms) log run′ (schedulerIn (d .played .state) (ms ++ marksIn (d .played .trace)))
+      × Round log run (schedulerIn s ms) run′ (schedulerIn (d .played .state) (ms ++ marksIn (d .played .trace)))
       × (d .passes ≡ length log) × Stands book a run′ (d .played .state .game)
       × ((r : ℕ) → r < routinesOf book →
       LeftBy (stepCount book r) (positionOf (routineAt (s .game) r)) (lastOf r log) (positionOf (routineAt (d .played .state .game) r)))
@@ -63,14 +62,11 @@ module _ (book : List ℕ) (a : Accepted book) where
       let g = s .game in
       let range = a .laid .counts in
       let (to, log, rule, behind) =
-      instant-by-rules book a mostPasses run (atStart g) ms (at-start-stands run g stand) (at-start-sound book g a f)
-      (enough book a g f .passes) in
-      let derived : Round log run (schedulerIn s ms) to
-      (schedulerIn (round book g .played .state) (ms ++ marksIn (round book g .played .trace))) =
-      rw (chains book s ms range f) (rule .derived) in (
+      instant-given book a mostPasses run (atStart g) ms (at-start-stands run g stand) (at-start-sound book g a f)
+      (enough book a g f .passes) in (
         to,
         log,
-        record { derived = derived; noOther = λ n run″ σ″ other. instant-determined other derived },
+        rw (chains book s ms range f) (rule .derived),
         rule .passes,
         rule .stands,
         λ r l. rw (at-start-positions g r) at (left-at book r (lastOf r log) (atStart g .game) _ (behind r l) (none-turns g f r l)),

@@ -12,7 +12,6 @@ use lib.Seq.{getD-take, ext-getD}
 use Rattle.layout.specs.Layout.{mostRoutines, routinesOf}
 use Rattle.lines.specs.declared.Line.{Line}
 use Rattle.lines.specs.Lines.{mostEntries, itemAt, entriesOf}
-use Rattle.book.specs.Accepted.{CountsInRange}
 use Rattle.game.specs.declared.Routine.{Routine}
 use Rattle.game.specs.declared.Game.{Game}
 use Rattle.game.specs.Game.{stopped, blank, routineAt}
@@ -96,8 +95,8 @@ module _
         | no n ↦ f .routinesBeyond r (omega arith) below ∙ sym (g .routinesBeyond r (omega arith) below)
       ]
 
-  same-fields : h ≡ k
-  same-fields =
+  pub same-game : h ≡ k
+  same-game =
       let (listed, starting) = lists-right book h f in
       let (listed′, starting′) = lists-right book k g in
       let counts = f .numbers ∙ sym (g .numbers) in
@@ -114,10 +113,3 @@ module _
         starting = same-line starting starting′ (ap (λ σ. σ .orders .toStart) e) i;
         broadcast = e i .orders .toBroadcast;
       }
-
-pub same-game :
-    (book : List ℕ) → CountsInRange book → (h k : Game) (ms : List (ℕ × ℤ)) → Fits book h → Fits book k →
-    schedulerOf h ms ≡ schedulerOf k ms →
-    ((r : ℕ) → r < routinesOf book → positionOf (routineAt h r) ≡ positionOf (routineAt k r)) →
-    h ≡ k
-same-game book range = same-fields book

@@ -1,11 +1,11 @@
--- Where only the place tells the branch that was taken from the other.
+-- A round behind which only the place differs between the branch that was taken and the other.
 use mathlib.Core.Path.{_≡_}
 use Rattle.game.specs.Game.{routineAt}
 use Rattle.round.specs.Answers.{Answer}
 use Rattle.round.specs.examples.Examples.{first, marksInBoth, roomForTwo}
 use Rattle.rules.specs.Claims.{ByTheRules}
 
--- "if counter 0 equals 0, rest, mark 1; else, rest, mark 1": behind the first round the routine stands behind the rest of the first block,
+-- If counter 0 equals 0, rest, mark 1; else, rest, mark 1. Behind the first round the routine stands behind the rest of the first block,
 -- at place 2, and not at place 5, where the same is left to be run
 abbrev pub StandsInFirstBlock : Type 0
 StandsInFirstBlock =

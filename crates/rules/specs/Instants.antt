@@ -28,12 +28,12 @@ withTermination CONT t σ = σ
 
 -- what a thread does in an execution step: by rule 33 nothing, by rule 34 it runs, with this status
 pub data Execution : Type 0 where
-  skipped : Execution
+  passedOver : Execution
   executed : Status → Execution
 
 -- b of rules 33 and 34: false if α = CONT, and true otherwise
 abbrev pub isFinished : Execution → Bool
-isFinished skipped = true
+isFinished passedOver = true
 isFinished (executed TERM) = true
 isFinished (executed (COOP w)) = true
 isFinished (executed CONT) = false
@@ -44,7 +44,7 @@ pub data Thread (t : ℕ) : (ℕ → Instruction) → Scheduler → Execution �
   rule33 :
       {run : ℕ → Instruction} {σ : Scheduler} →
       (has (σ .threads .susp) t ≡ true) ⊎ (statusOf σ t ≢ continuing) →
-      Thread t run σ skipped run σ
+      Thread t run σ passedOver run σ
   rule34 :
       {run : ℕ → Instruction} {inst : Instruction} {σ σ′ : Scheduler} {α : Status} →
       has (σ .threads .susp) t ≡ false → statusOf σ t ≡ continuing → ⟨ run t & σ ⟩⟶[ α ]⟨ inst & σ′ ⟩ →
@@ -207,8 +207,8 @@ chained σ = action8 (action7 (action6 (action5 (action4 (action3 (action2 (acti
 
 -- Document 01: "The move flag is clear when a round's first pass begins, as section 3.2 says; rules 37 and 38 alone would carry it over. A
 -- signal given by a step and a routine's end in a pass each set it, and nothing else does, the eight actions included."
-abbrev pub unmoved : Scheduler → Scheduler
-unmoved σ =
+abbrev pub withMoveClear : Scheduler → Scheduler
+withMoveClear σ =
     withCurrent σ (
     let c = σ .current in
     record { signals = c .signals; terms = c .terms; values = c .values; eoi = c .eoi; move = false }
@@ -216,4 +216,4 @@ unmoved σ =
 
 -- "round = one chaining step and then one instant"
 abbrev pub Round : Log → (ℕ → Instruction) → Scheduler → (ℕ → Instruction) → Scheduler → Type 0
-Round log run σ run′ σ′ = Instant log run (unmoved (chained σ)) run′ σ′
+Round log run σ run′ σ′ = Instant log run (withMoveClear (chained σ)) run′ σ′

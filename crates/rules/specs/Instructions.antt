@@ -2,7 +2,7 @@
 use Prim.Native.Nat.{ℕ}
 use lib.IntN.{ℤ}
 
--- How a thread pauses: document 01's ways to rest, each with the place of its step in the book and, if timed, what is left of its count.
+-- How a thread pauses: document 01's ways to rest, each with the place of its step in the routine and, if timed, what is left of its count.
 pub data Pause : Type 0 where
   -- "6 rest" and "7 rest n"
   rests : ℕ → Pause
@@ -13,7 +13,7 @@ pub data Pause : Type 0 where
   unread : ℕ → Pause
 
 -- 2.1: "Status is TERM when the thread is totally terminated; it is COOP when the thread cooperates", and CONT when "execution has to be
--- continued during the current instant". Of a thread that cooperates the pause is told too.
+-- continued during the current instant". A thread that cooperates does so by a pause.
 pub data Status : Type 0 where
   TERM : Status
   COOP : Pause → Status
@@ -37,7 +37,7 @@ pub record Expression : Type 0 where
   pub relation : ℕ
   pub number : ℤ
 
--- An instruction at which a thread may pause has the place of its step in front.
+-- An instruction at which a thread may pause has the place of its step in its routine in front.
 infixr 5 _then_
 pub data Instruction : Type 0 where
   -- "nothing is the instruction that does nothing" (section 4.1)

@@ -6,7 +6,7 @@ use Rattle.numbers.specs.Choice.{if_then_else_}
 use Rattle.round.specs.declared.Position.{Position}
 use Rattle.round.specs.Ticks.{fresh, begunAt}
 use Rattle.rules.specs.Instructions.{Pause, rests, restsFor, misses, missesFor, unread, TERM, COOP}
-use Rattle.rules.specs.Instants.{Execution, skipped, executed, StepLog, Log}
+use Rattle.rules.specs.Instants.{Execution, passedOver, executed, StepLog, Log}
 
 -- "Op 6, or a reading that stayed missing, leaves the place on the step that follows it in the book; every other pause leaves it on its own
 -- step. .. Begun is set when op 7, 9 or 11 pauses, and cleared when that step is past."
@@ -17,25 +17,25 @@ pausedAt (misses p) = fresh p
 pausedAt (missesFor p k) = begunAt p k
 pausedAt (unread p) = fresh (p + 1)
 
--- of two executions of a thread the second, unless it is skipped there
+-- of two executions of a thread the second, unless it is passedOver there
 abbrev pub secondOr : Execution → Execution → Execution
-secondOr x skipped = x
+secondOr x passedOver = x
 secondOr x (executed α) = executed α
 
--- what thread t does last in an execution step, and in an instant: the last time that it is not skipped
+-- what thread t does last in an execution step, and in an instant: the last time that it is not passedOver
 unfoldable pub lastIn : ℕ → StepLog → Execution
-lastIn t [] = skipped
-lastIn t ((u, x) ∷ l) = secondOr (if eqb u t then x else skipped) (lastIn t l)
+lastIn t [] = passedOver
+lastIn t ((u, x) ∷ l) = secondOr (if eqb u t then x else passedOver) (lastIn t l)
 
 unfoldable pub lastOf : ℕ → Log → Execution
-lastOf t [] = skipped
+lastOf t [] = passedOver
 lastOf t (l ∷ log) = secondOr (lastIn t l) (lastOf t log)
 
 -- Where a routine of so many steps stands behind a round in which its thread did this last, from where it stood before. No thread is left
 -- to be continued.
 pub data LeftBy (size : ℕ) (before : Position) : Execution → Position → Type 0 where
   -- nothing is done
-  unmoved : LeftBy size before skipped before
+  stays : LeftBy size before passedOver before
   -- "An ended routine's place is its step count."
   ended : LeftBy size before (executed TERM) (fresh size)
   paused : {w : Pause} → LeftBy size before (executed (COOP w)) (pausedAt w)

@@ -20,7 +20,7 @@ use Rattle.round.specs.declared.Act.the-variants.{Goes, Halts}
 use Rattle.round.specs.State.{State, signal, end, completed, isThere}
 use Rattle.round.specs.Actions.{positionOf, atStart}
 use Rattle.round.specs.Ticks.{begunAt, countAt, tickAt}
-use Rattle.round.specs.Rounds.{stageAfter, listedIn, round, traceOf}
+use Rattle.round.specs.Rounds.{stageAfter, listedIn, traceOf, stateAfter}
 
 -- what the step asks for is there; a rest asks for nothing
 abbrev pub hasThing : State → {st : Step} {n : ℕ} → Timed st n → Bool
@@ -50,12 +50,12 @@ pub record TimedTick (r : ℕ) (steps : List ℕ) (x : Position) (s : State) {st
 pub record TimedRound (book : List ℕ) (g : Game) (r : ℕ) (x : Position) {st : Step} {n : ℕ} (timed : Timed st n) : Type 0 where
   -- with none left, or with its thing there at the round's end, it is past in this round
   pub goesPast :
-      (countAt x n ≡ 0) ⊎ (hasThing (round book g .played .state) timed ≡ true) →
+      (countAt x n ≡ 0) ⊎ (hasThing (stateAfter book g) timed ≡ true) →
       Somewhere (λ h. h ≡ completed r (x .place)) (traceOf book g)
   -- otherwise the routine has rested on it, with one less left
   pub countsDown :
-      0 < countAt x n → hasThing (round book g .played .state) timed ≡ false →
-      let back = routineAt (round book g .played .state .game) r in
+      0 < countAt x n → hasThing (stateAfter book g) timed ≡ false →
+      let back = routineAt (stateAfter book g .game) r in
       (back .stage ≡ rested) × (positionOf back ≡ begunAt (x .place) (countAt x n - 1))
 
 -- so it is for every listed routine that isn't suspended; "Listed, suspended: once the eight actions are done."

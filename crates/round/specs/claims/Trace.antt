@@ -1,8 +1,8 @@
--- The trace of a round is held against the round. Carried out again in order, the completed steps lead each routine
--- that plays from where it stood to where its last turn ends, so none is left out, and the step there says how it is left; they give the
--- counters and numbers at the round's end, and of the other routines there are no events. There are as many signals as signal steps, as
--- many marks as mark steps, an end for each routine that ended, and as many misses as turns that ended because their thing was missing;
--- which signal or mark a step gives is not said here. A try is of what its step asks for, and finds it exactly if that was there from the
+-- The trace of a round agrees with the round. Carried out again in order, the completed steps lead each routine that plays from where it
+-- stood to where its last turn ends, so none is left out, and the step there says how it is left; they give the counters and numbers at the
+-- round's end, and of the other routines there are no events. There are as many signals as signal steps, as many marks as mark steps, an
+-- end for each routine that ended, and as many misses as turns that ended because their thing was missing; which signal or mark a step
+-- gives is not said here. A try is of what its step asks for, and finds it exactly if that was there from the
 -- start or came before; a step of op 8, 10 or 12 is completed only by finding what it asks for.
 use Prim.Native.Nat.{ℕ, _+_, _-_, _<_}
 use mathlib.Core.Path.{_≡_}
@@ -29,7 +29,7 @@ use Rattle.round.specs.declared.Turn.the-variants.{PassedOver, Took}
 use Rattle.round.specs.State.{Thing, signal, end, number, Event, gave, ended, missing, past, marked, completed, isThere}
 use Rattle.round.specs.Actions.{kept, positionOf, atStart}
 use Rattle.round.specs.Ticks.{fresh, begunAt, countAt}
-use Rattle.round.specs.Rounds.{listedIn, round, traceOf}
+use Rattle.round.specs.Rounds.{listedIn, round, traceOf, stateAfter}
 use Rattle.round.specs.claims.Demand.{isSignalStep, givesSignal, endsRoutine, AsksFor, Comes}
 use Rattle.round.specs.Answers.{marksIn}
 use Rattle.round.specs.claims.Completed.{completes, isMarkStep}
@@ -44,7 +44,8 @@ isMiss (past r p t) = false
 isMiss (marked r n) = false
 isMiss (completed r p) = false
 
--- a turn ended for want of a thing: to rest, or to be continued; that no turn is continued because its steps ran out is Enough.antt's claim
+-- a turn ended because its thing was missing: to rest, or to be continued; that no turn is continued because its steps ran out is
+-- Enough.antt's claim
 abbrev pub foundMissing : Turn → Bool
 foundMissing PassedOver = false
 foundMissing (Took Ended) = false
@@ -65,7 +66,7 @@ isOf r (completed q p) = eqb q r
 abbrev pub RestsAt : Routine → Position → Type 0
 RestsAt y z = (y .stage ≡ stage.rested) × (positionOf y ≡ z)
 
--- routine r, whose last turn has come to position x by what is told
+-- routine r, whose last turn has come to position x by these events
 module _ (book : List ℕ) (r : ℕ) (x : Position) (events : List Event) where
   -- the step there is of this kind
   abbrev pub StandsOn : Kind → Type 0
@@ -75,7 +76,7 @@ module _ (book : List ℕ) (r : ℕ) (x : Position) (events : List Event) where
   abbrev pub WasMissing : Thing → Type 0
   WasMissing t = Somewhere (λ h. h ≡ missing r (x .place) t) events
 
-  -- and y, as that turn leaves it: a case for each way out of a turn
+  -- and y, as that turn leaves it: a case for each way out of a routine's last turn in a round
   pub data LeftAt (y : Routine) : Type 0 where
     -- "Op 6, or a reading that stayed missing, leaves the place on the step that follows it in the book"
     rests : StandsOn kind.Rest → RestsAt y (fresh (x .place + 1)) → LeftAt y
@@ -105,16 +106,16 @@ pub record TraceAgrees (book : List ℕ) (g : Game) : Type 0 where
   -- an end for each listed routine that is in stage 3 in the game given back, and for no other
   pub ends :
       (r : ℕ) → Among r (listedIn g) →
-      (routineAt (round book g .played .state .game) r .stage ≡ stage.ended) ↔ Somewhere (λ h. h ≡ ended r) (traceOf book g)
+      (routineAt (stateAfter book g .game) r .stage ≡ stage.ended) ↔ Somewhere (λ h. h ≡ ended r) (traceOf book g)
   pub endings :
       howMany endsRoutine (traceOf book g)
-      ≡ length (kept (λ r. eqb (routineAt (round book g .played .state .game) r .stage) stage.ended) (listedIn g))
+      ≡ length (kept (λ r. eqb (routineAt (stateAfter book g .game) r .stage) stage.ended) (listedIn g))
   -- as many misses as turns that ended because their thing was missing
   pub misses : howMany isMiss (traceOf book g) ≡ howMany foundMissing (round book g .played .turns)
   -- what came is there at the round's end, and what is there then and was not at the start has come
-  pub comes : (t : Thing) → Somewhere (Comes t) (traceOf book g) → isThere (round book g .played .state) t ≡ true
+  pub comes : (t : Thing) → Somewhere (Comes t) (traceOf book g) → isThere (stateAfter book g) t ≡ true
   pub came :
-      (t : Thing) → isThere (atStart g) t ≡ false → isThere (round book g .played .state) t ≡ true →
+      (t : Thing) → isThere (atStart g) t ≡ false → isThere (stateAfter book g) t ≡ true →
       Somewhere (Comes t) (traceOf book g)
   -- "A try of op 8 to 12 finds its signal, the joined routine's end or the signal's k-th number": it is of what its step asks for
   pub asked :
@@ -142,13 +143,13 @@ pub record TraceAgrees (book : List ℕ) (g : Game) : Type 0 where
   pub left :
       (r : ℕ) → Plays g r →
       LeftAt book r (positionAfter book r (traceOf book g) (g .counters, []) (positionOf (routineAt g r))) (traceOf book g)
-      (routineAt (round book g .played .state .game) r)
+      (routineAt (stateAfter book g .game) r)
   -- of a routine that doesn't play there are no events, and it stays where it is
   pub noEvents :
       (r : ℕ) → r < routinesOf book → (Plays g r → ⊥) →
       (howMany (isOf r) (traceOf book g) ≡ 0)
-      × (positionOf (routineAt (round book g .played .state .game) r) ≡ positionOf (routineAt g r))
+      × (positionOf (routineAt (stateAfter book g .game) r) ≡ positionOf (routineAt g r))
   -- the completed steps, carried out on the counters before the round with no number given yet, give those at its end
   pub contents :
-      let last = round book g .played .state in
+      let last = stateAfter book g in
       (last .game .counters, last .numbers) ≡ contentsAfter book (traceOf book g) (g .counters, [])

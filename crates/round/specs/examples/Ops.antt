@@ -81,8 +81,8 @@ at stage p = placed blank stage (fresh p)
 abbrev pub begun : ℕ → ℕ → Routine
 begun p left = placed blank rested (begunAt p left)
 
-abbrev pub isSuspended : Routine → Routine
-isSuspended x = withSuspended x true
+abbrev pub suspendedOne : Routine → Routine
+suspendedOne x = withSuspended x true
 
 abbrev pub minus : ℕ → ℤ
 minus n = negℤ (pos n)
@@ -216,7 +216,7 @@ bySteps =
       done =
           gives 1 [] (at rested 2 ∷ at notStarted 0 ∷ []) (pos 0 ∷ [])
           ∷ gives 1 ((1, pos 5) ∷ []) (at rested 4 ∷ withSuspend (at rested 3) ∷ []) (pos 0 ∷ [])
-          ∷ gives 1 [] (at rested 6 ∷ withResume (isSuspended (at continuing 3)) ∷ []) (pos 0 ∷ [])
+          ∷ gives 1 [] (at rested 6 ∷ withResume (suspendedOne (at continuing 3)) ∷ []) (pos 0 ∷ [])
           ∷ gives 1 ((1, pos 5) ∷ []) (at rested 8 ∷ withStop (at rested 3) ∷ []) (pos 0 ∷ [])
           ∷ gives 1 [] (at ended 8 ∷ at stopped 3 ∷ []) (pos 0 ∷ [])
           ∷ [];
@@ -232,9 +232,9 @@ byOrders =
           order 1 1
           ∷ gives 1 ((1, pos 5) ∷ []) (at ended 0 ∷ at rested 3 ∷ []) (pos 0 ∷ [])
           ∷ order 3 1
-          ∷ gives 1 [] (at ended 0 ∷ isSuspended (at continuing 3) ∷ []) (pos 0 ∷ [])
+          ∷ gives 1 [] (at ended 0 ∷ suspendedOne (at continuing 3) ∷ []) (pos 0 ∷ [])
           ∷ order 3 1 ∷ order 4 1
-          ∷ gives 1 [] (at ended 0 ∷ isSuspended (at continuing 3) ∷ []) (pos 0 ∷ [])
+          ∷ gives 1 [] (at ended 0 ∷ suspendedOne (at continuing 3) ∷ []) (pos 0 ∷ [])
           ∷ order 4 1
           ∷ gives 1 ((1, pos 5) ∷ []) (at ended 0 ∷ at rested 3 ∷ []) (pos 0 ∷ [])
           ∷ order 2 1
