@@ -1,4 +1,4 @@
-/* check_book FILE: says whether the file is a book that is accepted, or why it is refused.
+/* check_book FILE: says whether the file is a book that is accepted, and then which routines are never started, or why it is refused.
  * Exit status: 0 accepted, 1 refused, 2 the file cannot be read. */
 #include <stdio.h>
 #include <stdlib.h>
@@ -6,6 +6,8 @@
 #include "zulqenat.h"
 
 enum { ACCEPTED = 0, REFUSED = 1, UNREADABLE = 2 };
+
+enum { MOST_ROUTINES = 64 };
 
 static const char *meaning(uint32_t number)
 {
@@ -48,11 +50,21 @@ static uint8_t *read_all(FILE *file, size_t *length)
     return bytes;
 }
 
+/* A line for each routine that no chain of start steps leads to. */
+static void print_unstarted(const uint8_t *book, size_t length)
+{
+    uint8_t names[MOST_ROUTINES];
+    struct zulqenat_names unstarted = zulqenat_unstarted(book, length, names, sizeof names);
+    for (size_t i = 0; i < unstarted.count; i++)
+        printf("routine %u is never started\n", (unsigned)names[i]);
+}
+
 static int check(const uint8_t *book, size_t length)
 {
     struct zulqenat_verdict verdict = zulqenat_check_book(book, length);
     if (verdict.number == 0) {
         printf("accepted\n");
+        print_unstarted(book, length);
         return ACCEPTED;
     }
     printf("refused %u %u: %s\n", (unsigned)verdict.number, (unsigned)verdict.place, meaning(verdict.number));

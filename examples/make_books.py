@@ -193,6 +193,15 @@ FACTIONS = book(
     counters=4,
 )
 
+# Nobody starts routine 2, and so nobody starts routine 3; routine 1 is started in a block. This book is accepted.
+FORGOTTEN = book(
+    [if_(0, EQUAL, 0), start(1), end(), rest()],
+    [mark(1)],
+    [start(3)],
+    [mark(3)],
+    counters=1,
+)
+
 # Without a rest the while would go round for ever in one round: refused 7, at the while, step 1.
 ENDLESS = book(
     [mark(1), while_(0, EQUAL, 0), add(0, 0), end()],
@@ -212,6 +221,7 @@ def main():
         ("t5", T5),
         ("t9", T9),
         ("factions", FACTIONS),
+        ("forgotten", FORGOTTEN),
         ("endless", ENDLESS),
         ("wrong_step", WRONG_STEP),
     ):

@@ -1,4 +1,4 @@
-/* Checks a book of routines. Link with target/staticlib/libbook_c.a. */
+/* Checks a book of routines, and names the routines that nobody starts. Link with target/staticlib/libbook_c.a. */
 #ifndef ZULQENAT_H
 #define ZULQENAT_H
 
@@ -23,6 +23,8 @@ extern "C" {
  * 6       wrong nesting                                        the step reached; for an opening that is
  *                                                              never closed, the innermost one
  * 7       a while's body does not pause                        the lowest such while
+ * 12      the buffer for the names is shorter than the         0
+ *         number of routines (of zulqenat_unstarted alone)
  *
  * Steps are numbered from the book's first step, 0.
  */
@@ -34,6 +36,18 @@ struct zulqenat_verdict {
 /* Reads the length bytes at book, which may be any bytes and are not changed. book is never null, not even
  * where length is 0. The call keeps nothing, and returns for every input. */
 struct zulqenat_verdict zulqenat_check_book(const uint8_t *book, size_t length);
+
+/* The verdict, and how many routines are named: 0 after a refusal. */
+struct zulqenat_names {
+    struct zulqenat_verdict verdict;
+    size_t count;
+};
+
+/* Names the routines to which no chain of start steps leads from routine 0, wherever the steps stand: their numbers go to the front of
+ * names, a byte each, in rising order. names has room bytes, of which the others, and all after a refusal, stay as they are; it needs as
+ * many as the book has routines, and 64 are always enough. book is as above and is not changed; names is never null, not even where room is
+ * 0, and lies outside book. The call keeps nothing, and returns for every input. */
+struct zulqenat_names zulqenat_unstarted(const uint8_t *book, size_t length, uint8_t *names, size_t room);
 
 #ifdef __cplusplus
 }

@@ -8,14 +8,18 @@ tests/long_scripts.py
 tests/listings.py
 examples/build.sh
 told() {
-    found=$(target/check_book "examples/$1.book") || true
+    status=0
+    found=$(target/check_book "examples/$1.book") || status=$?
     echo "$1.book: $found"
-    [ "$found" = "$2" ] || { echo "expected: $2"; exit 1; }
+    [ "$found" = "$3" ] && [ "$status" = "$2" ] || { echo "expected, with status $2: $3"; exit 1; }
 }
 for name in t3 t5 t9 factions; do
-    told "$name" "accepted"
+    told "$name" 0 "accepted"
 done
-told endless "refused 7 1: a while's body does not pause"
-told wrong_step "refused 5 2: a step has an unknown op, a field out of range or a stray field"
+told forgotten 0 "accepted
+routine 2 is never started
+routine 3 is never started"
+told endless 1 "refused 7 1: a while's body does not pause"
+told wrong_step 1 "refused 5 2: a step has an unknown op, a field out of range or a stray field"
 tests/damaged_books.sh
 echo "all tests passed"

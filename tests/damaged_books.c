@@ -1,4 +1,5 @@
-/* Reads lines of number, place and book on standard input: checks each book against its line, then damaged in several ways.
+/* Reads lines of number, place and book on standard input: checks each book against its line, then damaged in several ways, and names the
+ * routines of each that nobody starts.
  * At the end, bytes far longer than any book.
  * Each book lies in memory of just its length, so that valgrind sees a read before or behind it. */
 #define _POSIX_C_SOURCE 200809L
@@ -9,7 +10,7 @@
 
 #include "../examples/zulqenat.h"
 
-enum { WAYS = 10, MOST_ADDED = 16, HEADER = 12, STEP = 8, LONG = 100000 };
+enum { WAYS = 10, MOST_ADDED = 16, HEADER = 12, STEP = 8, LONG = 100000, UNTOUCHED = 255 };
 
 static uint64_t state = 1;
 
@@ -68,8 +69,27 @@ static void damage(uint8_t *book, size_t *length)
     }
 }
 
+/* Names the routines that nobody starts in memory of just room bytes: the verdict must be that of the book, or 12 where the book is
+ * accepted and has more routines; the names rise and are routines of the book, and what is behind them is untouched. */
+static int check_names(const uint8_t *book, size_t length, struct zulqenat_verdict verdict, size_t room)
+{
+    uint8_t *names = malloc(room > 0 ? room : 1);
+    if (names == NULL)
+        return 0;
+    memset(names, UNTOUCHED, room);
+    struct zulqenat_names answer = zulqenat_unstarted(book, length, names, room);
+    size_t routines = verdict.number == 0 ? book[0] : 0;
+    uint32_t number = room < routines ? 12 : verdict.number;
+    int fine = answer.verdict.number == number && answer.verdict.place == verdict.place;
+    fine = fine && answer.count <= (number == 0 ? routines - 1 : 0);
+    for (size_t i = 0; fine && i < room; i++)
+        fine = i < answer.count ? names[i] < routines && names[i] > (i > 0 ? names[i - 1] : 0) : names[i] == UNTOUCHED;
+    free(names);
+    return fine;
+}
+
 /* Checks a book in memory of its own; the book must stay as it is, and the number be one of 0 to 7. Where a verdict is
- * expected, it must be that one. */
+ * expected, it must be that one. Then its routines that nobody starts are named, with too little room, with just enough and with more. */
 static int check(const uint8_t *book, size_t length, const struct zulqenat_verdict *expected, unsigned long numbers[8])
 {
     uint8_t *lent = malloc(length > 0 ? length : 1);
@@ -77,7 +97,10 @@ static int check(const uint8_t *book, size_t length, const struct zulqenat_verdi
         return 0;
     memcpy(lent, book, length);
     struct zulqenat_verdict verdict = zulqenat_check_book(lent, length);
-    int fine = verdict.number <= 7 && memcmp(lent, book, length) == 0;
+    size_t routines = length > 0 ? lent[0] : 0;
+    int fine = verdict.number <= 7 && check_names(lent, length, verdict, routines > 0 ? routines - 1 : 0)
+        && check_names(lent, length, verdict, routines) && check_names(lent, length, verdict, routines + 9)
+        && memcmp(lent, book, length) == 0;
     if (expected != NULL)
         fine = fine && verdict.number == expected->number && verdict.place == expected->place;
     if (fine)

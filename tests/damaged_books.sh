@@ -1,5 +1,5 @@
 #!/bin/sh
-# The C call on every vector, against what its line expects, and on some thousand damaged books, all under valgrind:
+# The C calls on every vector, against what its line expects, and on some thousand damaged books, all under valgrind:
 # no error, and every call returns. First: examples/build.sh
 set -e
 cd "$(dirname "$0")/.."

@@ -26,7 +26,7 @@ def answers(commands, lines):
     for command in commands:
         word = command.split()[0]
         end = at
-        if word in ("read", "show", "setup", "order", "log", "facts"):
+        if word in ("read", "show", "setup", "order", "unstarted", "log", "facts"):
             end += 1
         elif word == "round":
             end += 1 + int(lines[at].split()[4])

@@ -63,6 +63,13 @@ mark 0 10
 """
 
 
+FORGOTTEN = """\
+round 1 passes 1 marks 0
+round 2 passes 1 marks 1
+mark 1 1
+"""
+
+
 def run(what, content, told):
     answer = subprocess.run([PROGRAM], input=content, stdout=subprocess.PIPE, check=True).stdout.decode()
     if answer != told:
@@ -70,7 +77,7 @@ def run(what, content, told):
 
 
 def examples():
-    for name, told in (("t3", T3), ("t5", T5), ("t9", T9), ("factions", FACTIONS)):
+    for name, told in (("t3", T3), ("t5", T5), ("t9", T9), ("factions", FACTIONS), ("forgotten", FORGOTTEN)):
         yield name, (EXAMPLES / (name + ".book")).read_bytes(), told
     for name, told in (("endless", "refused 7 1\n"), ("wrong_step", "refused 5 2\n")):
         yield name, (EXAMPLES / (name + ".book")).read_bytes(), told

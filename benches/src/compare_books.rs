@@ -10,10 +10,16 @@ use crate::{books, library, plain};
 const RANDOM_BOOKS: usize = 100_000;
 const SHOWN: usize = 10;
 
-/// How often each number was answered, and how many books were answered differently.
+/// What a buffer for names holds before a call; no routine has this number.
+const UNTOUCHED: u8 = 255;
+
+/// How often each number was answered, how many routines were named, how many buffers were too short, and how much was answered
+/// differently.
 #[derive(Default)]
 struct Tally {
     numbers: [usize; 8],
+    named: usize,
+    short: usize,
     differ: usize,
 }
 
@@ -21,15 +27,31 @@ impl Tally {
     fn compare(&mut self, book: &[u8], expected: Verdict) {
         let found = library::read(book);
         self.numbers[expected.number as usize] += 1;
-        if found == expected {
-            return;
+        if found != expected {
+            self.count_different(&format!("library {found}, expected {expected}"), book);
         }
+        self.compare_names(book);
+    }
+
+    /// The routines that nobody starts, with a buffer that is too short, just long enough and longer; the whole buffer counts.
+    fn compare_names(&mut self, book: &[u8]) {
+        let routines = book.first().map_or(0, |&count| count as usize);
+        for room in [routines.saturating_sub(1), routines, routines + 9] {
+            let (mut by_library, mut by_plain) = (vec![UNTOUCHED; room], vec![UNTOUCHED; room]);
+            let found = library::unstarted(book, &mut by_library);
+            let expected = plain::unstarted(book, &mut by_plain);
+            self.named += expected.count;
+            self.short += usize::from(expected.verdict.number == 12);
+            if found != expected || by_library != by_plain {
+                self.count_different(&format!("library names {found:?} {by_library:?}"), book);
+            }
+        }
+    }
+
+    fn count_different(&mut self, what: &str, book: &[u8]) {
         self.differ += 1;
         if self.differ <= SHOWN {
-            println!(
-                "library {found}, expected {expected}: {}",
-                books::digits(book)
-            );
+            println!("{what}: {}", books::digits(book));
         }
     }
 
@@ -82,10 +104,19 @@ pub fn compare_books() -> bool {
         vectors.len()
     );
     println!("answers 0 to 7: {:?}", tally.numbers);
-    println!("different: {} of {}", tally.differ, tally.total());
-    let seen = tally.numbers.iter().all(|&count| count >= 100);
+    println!(
+        "routines that nobody starts: {} named, {} buffers too short",
+        tally.named, tally.short
+    );
+    println!(
+        "different: {} of {} and their names",
+        tally.differ,
+        tally.total()
+    );
+    let seen =
+        tally.numbers.iter().all(|&count| count >= 100) && tally.named >= 100 && tally.short >= 100;
     if !seen {
-        println!("some number was answered fewer than 100 times");
+        println!("some number was answered, routines were named or a buffer was too short fewer than 100 times");
     }
     tally.differ == 0 && seen
 }

@@ -1,10 +1,17 @@
 //! The library's calls.
 
 use crate::game::{Game, Outcome, Played};
-use crate::verdict::Verdict;
+use crate::verdict::{UnstartedNames, Verdict};
 
 extern "C" {
     fn zulqenat_check_book(book: *const u8, length: usize) -> Verdict;
+
+    fn zulqenat_unstarted(
+        book: *const u8,
+        length: usize,
+        names: *mut u8,
+        room: usize,
+    ) -> UnstartedNames;
 
     fn zulqenat_fits(book: *const u8, length: usize, game: Game) -> bool;
 
@@ -39,6 +46,12 @@ extern "C" {
 pub fn read(book: &[u8]) -> Verdict {
     // SAFETY: the pointer and the length are those of a slice, which the call only reads and does not keep.
     unsafe { zulqenat_check_book(book.as_ptr(), book.len()) }
+}
+
+/// Names the routines that nobody starts.
+pub fn unstarted(book: &[u8], names: &mut [u8]) -> UnstartedNames {
+    // SAFETY: the pointers and lengths are those of two slices; the call reads the first, writes the second and keeps neither.
+    unsafe { zulqenat_unstarted(book.as_ptr(), book.len(), names.as_mut_ptr(), names.len()) }
 }
 
 /// Whether a game fits a book.

@@ -4,10 +4,11 @@ mod fitting;
 mod orders;
 mod reading;
 mod round;
+mod starts;
 
 use crate::game::{Counts, Game, Outcome, Played};
 use crate::steps::{Step, MARK};
-use crate::verdict::Verdict;
+use crate::verdict::{UnstartedNames, Verdict};
 pub use fitting::timed_count;
 use orders::obey;
 pub use orders::{nameable, KINDS};
@@ -54,6 +55,24 @@ pub fn mark_steps(book: &[u8]) -> usize {
 #[inline(never)]
 pub fn read(book: &[u8]) -> Verdict {
     reading::check(book).err().unwrap_or(Verdict::ACCEPTED)
+}
+
+/// Names the routines that no chain of start steps leads to from routine 0; checks 1 to 7 and 12.
+#[inline(never)]
+pub fn unstarted(book: &[u8], names: &mut [u8]) -> UnstartedNames {
+    let (verdict, count) = match check_names(book, names.len()) {
+        Ok(()) => (Verdict::ACCEPTED, starts::name_unstarted(book, names)),
+        Err(verdict) => (verdict, 0),
+    };
+    UnstartedNames { verdict, count }
+}
+
+fn check_names(book: &[u8], room: usize) -> Check {
+    reading::check(book)?;
+    if room < counts(book).routines {
+        return refuse(12);
+    }
+    Ok(())
 }
 
 /// Whether a game fits an accepted book.

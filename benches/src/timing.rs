@@ -3,7 +3,7 @@
 use std::hint::black_box;
 use std::time::Instant;
 
-use crate::game::{Game, Outcome, Played};
+use crate::game::{Game, Outcome, Played, MOST_ROUTINES};
 use crate::timed_books::{timed_books, TimedBook};
 use crate::{books, library, plain};
 
@@ -55,6 +55,26 @@ fn time_reading(name: &str, book: &[u8]) {
         },
         || {
             black_box(plain::read(black_box(book)));
+        },
+    );
+}
+
+fn time_unstarted(name: &str, book: &[u8]) {
+    let (mut by_library, mut by_plain) = ([0; MOST_ROUTINES], [0; MOST_ROUTINES]);
+    let found = library::unstarted(book, &mut by_library);
+    let expected = plain::unstarted(book, &mut by_plain);
+    assert!(
+        found == expected && by_library == by_plain && expected.verdict.is_accepted(),
+        "{name}: names differ or are refused"
+    );
+    time(
+        &format!("{name}, routines that nobody starts"),
+        1,
+        || {
+            black_box(library::unstarted(black_box(book), &mut by_library));
+        },
+        || {
+            black_box(plain::unstarted(black_box(book), &mut by_plain));
         },
     );
 }
@@ -211,6 +231,7 @@ pub fn time_all() {
     for timed in timed_books() {
         let games = games_of(&timed);
         time_reading(timed.name, &timed.book);
+        time_unstarted(timed.name, &timed.book);
         time_fitting(&timed, &games);
         time_set_up(&timed, &games);
         time_orders(&timed, &games);

@@ -26,3 +26,11 @@ impl fmt::Display for Verdict {
         write!(f, "{} {}", self.number, self.place)
     }
 }
+
+/// What naming the routines that nobody starts answers.
+#[repr(C)]
+#[derive(Clone, Copy, PartialEq, Eq, Debug)]
+pub struct UnstartedNames {
+    pub verdict: Verdict,
+    pub count: usize,
+}

@@ -1,6 +1,7 @@
 // Runs the script of the input, a command a line, on a book and a game, and prints the answers.
 // A line that is no command is told, and the script goes on. The input is read in pieces, so a script may be far longer than one.
 mod rounds;
+mod starts;
 
 use game::blank_game;
 use hex::LONGEST;
@@ -38,6 +39,10 @@ struct State {
 fn run_line(line: &[u8], book: &[u8], poked: Poked) -> Poked {
     if is(first(line), b"round") {
         return round(rest(line), book, poked);
+    }
+    if is(first(line), b"unstarted") {
+        starts::unstarted(rest(line), book);
+        return poked;
     }
     command(line, book, poked)
 }

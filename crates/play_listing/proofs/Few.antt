@@ -8,6 +8,7 @@ use native.Mathlib.Omega.{arith}
 use lib.Dec.{eqb}
 use lib.IntN.{ℤ}
 use lib.ListN.{length}
+use Rattle.numbers.proofs.Counting.{count-all}
 use Rattle.kinds.specs.Ops.{opMark}
 use Rattle.kinds.specs.Steps.{opAt}
 use Rattle.verdicts.specs.declared.Verdict.{Verdict}
@@ -18,7 +19,6 @@ use Rattle.game.specs.declared.Game.{Game}
 use Rattle.round.specs.Rounds.{traceOf}
 use Rattle.round.specs.Answers.{marksIn, numbersPerMark, spaceFor, roundVerdict, answer}
 use Rattle.round.specs.claims.Reasons.{RoundReason}
-use Rattle.round.proofs.Counting.{count-all}
 use Rattle.round.proofs.Once.{completed-once}
 use Rattle.round.proofs.Reasons.{round-reason, turned-down, played-out}
 

@@ -10,6 +10,7 @@ use native.Mathlib.Decide.{ℕ-discrete}
 use lib.ListN.{length, getD}
 use Rattle.numbers.specs.Counting.{All, Somewhere, Among}
 use Rattle.numbers.proofs.Tests.{clash, by-test}
+use Rattle.numbers.proofs.Counting.{among-at}
 use Rattle.fitting.proofs.Room.{few}
 use Rattle.round.specs.Actions.{kept}
 
@@ -57,12 +58,7 @@ among-or r (q ∷ qs) =
       | no n ↦ ⊎-elim (λ h. inl (inr h)) (λ m. inr (λ h. ⊎-elim n m h)) (among-or r qs)
     ]
 
--- the routine at a place is among them, and one among them is at a place
-pub among-at : (rs : List ℕ) (i : ℕ) → i < length rs → Among (getD rs i 0) rs
-among-at [] i h = absurd (omega arith)
-among-at (r ∷ rs) zero h = inl refl
-among-at (r ∷ rs) (suc i) h = inr (among-at rs i (omega arith))
-
+-- one among them is at a place
 pub among-place : (r : ℕ) (rs : List ℕ) → Among r rs → (i : ℕ) × (i < length rs) × (getD rs i 0 ≡ r)
 among-place r [] h = absurd h
 among-place r (q ∷ qs) (inl e) = (0, omega arith, sym e)

@@ -14,9 +14,10 @@ use Rattle.book.specs.Book.{stepsPart}
 use Rattle.book.specs.Accepted.{Accepted}
 use Rattle.book.proofs.Parts.{same-taken, same-routine}
 use Rattle.numbers.proofs.Below.{below-same, below-cut}
+use Rattle.numbers.proofs.Counting.{count-all}
 use Rattle.round.specs.claims.Demand.{countSteps}
 use Rattle.round.proofs.Among.{Distinct}
-use Rattle.round.proofs.Counting.{one, count-all}
+use Rattle.round.proofs.Counting.{one}
 use Rattle.round.proofs.Sums.{over-le, over-below}
 
 -- a step of a routine is the step at its place in the book

@@ -38,11 +38,6 @@ count-drops P Q up n x l out c there =
     in
     omega (arith, below-le _ _ fewer n, below-without x counts n l, one-le c (Q x) there)
 
-pub count-all : (P : ℕ → Bool) (n : ℕ) → countBelow P n ≤ n
-unfolding sumBelow
-count-all P zero = omega arith
-count-all P (suc n) = omega (arith, one-le (P n) true (λ h. refl), count-all P n)
-
 -- the numbers that are such are those counted by a test that passes at them alone
 module _ (test : ℕ → Bool) (Such : ℕ → Type 0) where
   pub counted : (n : ℕ) → ((i : ℕ) → i < n → (test i ≡ true) ↔ Such i) → Counted Such n (countBelow test n)

@@ -9,11 +9,12 @@ use borrow.Author.Tests.{lt-ltb}
 use lib.ListN.{length, getD, length-set}
 use lib.Seq.{take-suc-set, length-take-le, getD-take}
 use Rattle.numbers.specs.Counting.{All, Among}
+use Rattle.numbers.proofs.Counting.{among-at}
 use Rattle.lines.specs.declared.Line.{Line}
 use Rattle.lines.specs.Lines.{mostEntries, itemAt, entriesOf, pushed, appended}
 use Rattle.fitting.specs.Fits.{In}
 use Rattle.fitting.proofs.Lists.{joined, LineRight, used-all}
-use Rattle.round.proofs.Among.{among-at, among-place, each-among, Distinct, places-distinct}
+use Rattle.round.proofs.Among.{among-place, each-among, Distinct, places-distinct}
 
 module _ (l : Line) (r : ℕ) (z : length (l .items) ≡ mostEntries) (h : l .len < mostEntries) where
   pub pushed-joined : pushed l r ≡ joined l r

@@ -8,6 +8,7 @@ use native.Mathlib.Omega.{arith}
 use Rattle.numbers.specs.Choice.{if_then_else_}
 use Rattle.numbers.specs.Counting.{countBelow}
 use Rattle.numbers.proofs.Tests.{by-test}
+use Rattle.numbers.proofs.Counting.{count-all}
 use Rattle.kinds.specs.declared.Counts.{Counts}
 use Rattle.kinds.specs.Steps.{stepsIn}
 use Rattle.blocks.specs.Blocks.{deepest}
@@ -22,7 +23,7 @@ use Rattle.round.specs.State.{State, Event}
 use Rattle.round.specs.Ticks.{tick, fresh, effectOn}
 use Rattle.round.specs.Rounds.{mostTicks}
 use Rattle.round.specs.claims.Enough.{IfItGoesOn, InTime}
-use Rattle.round.proofs.Counting.{one, count-all}
+use Rattle.round.proofs.Counting.{one}
 use Rattle.round.proofs.Leads.{isHalt, formAt, Leaves, leads, restOver}
 use Rattle.round.proofs.Acts.{Sorted}
 use Rattle.round.proofs.Sorting.{sorted}

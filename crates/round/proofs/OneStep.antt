@@ -1,8 +1,7 @@
 -- Of the set with one step alone, different routines together have at most that one: one of them at most is the step's routine, and one of
 -- its places is the step's. By a sum in which that routine alone counts, and by induction on the places counted of it.
-use Prim.Native.Nat.{ℕ, zero, suc, _<_, _≤_}
+use Prim.Native.Nat.{ℕ, zero, suc, _≤_}
 use mathlib.Core.Path.{_≡_, refl}
-use mathlib.Core.Bool.{Bool, false}
 use mathlib.Core.List.{List}
 use mathlib.Core.Logic.{_≢_}
 use native.Mathlib.Decide.{ℕ-discrete}
@@ -12,16 +11,12 @@ use lib.Dec.{eqb}
 use Rattle.numbers.specs.Counting.{countBelow, sumBelow}
 use Rattle.directory.specs.Directory.{stepCount}
 use Rattle.numbers.proofs.Below.{below-same}
+use Rattle.numbers.proofs.Counting.{count-none}
 use Rattle.round.specs.claims.Demand.{countSteps}
 use Rattle.round.specs.claims.Completed.{theStep}
 use Rattle.round.proofs.Among.{Distinct}
 use Rattle.round.proofs.Counting.{one}
 use Rattle.round.proofs.Sums.{alone-le}
-
-count-none : (P : ℕ → Bool) (n : ℕ) → ((i : ℕ) → i < n → P i ≡ false) → countBelow P n ≡ 0
-unfolding sumBelow
-count-none P zero none = refl
-count-none P (suc n) none = rw (none n (omega arith)) (omega (arith, count-none P n (λ i l. none i (omega arith))))
 
 -- one place at most is p
 count-one : (p n : ℕ) → countBelow (λ i. eqb i p) n ≤ 1

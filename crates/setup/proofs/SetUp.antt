@@ -27,7 +27,7 @@ all-same (suc n) zero a = refl
 all-same (suc n) (suc i) a = all-same n i a
 
 -- routine 0 as the first entry leaves all entries 0
-item-first : (i : ℕ) → itemAt (pushed empty 0) i ≡ 0
+pub item-first : (i : ℕ) → itemAt (pushed empty 0) i ≡ 0
 item-first i = all-same mostEntries i 0
 
 module _ (counts : Counts) where
@@ -47,7 +47,7 @@ module _ (counts : Counts) where
   unfolding newGame
   routine-new r = all-same mostRoutines r blank
 
-  stage-new : (r : ℕ) → routineAt (newGame counts) r .stage ≡ notStarted
+  pub stage-new : (r : ℕ) → routineAt (newGame counts) r .stage ≡ notStarted
   stage-new r = ap (λ x. x .stage) (routine-new r)
 
 pub new-game-fits : (s : List ℕ) → Accepted s → Fits s (newGame (countsOf s))

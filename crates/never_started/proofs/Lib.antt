@@ -1,0 +1,4 @@
+pub mod StartSteps
+pub mod Reached
+pub mod Rounds
+pub mod NeverStarted

@@ -1,0 +1,7 @@
+pub mod Answers
+pub mod Starts
+pub mod Flags
+pub mod Finding
+pub mod Searching
+pub mod Decides
+pub mod Names

@@ -1,0 +1,4 @@
+pub mod Chains
+pub mod Unstarted
+pub mod Claims
+pub mod Examples
