@@ -15,7 +15,7 @@ use Rattle.setup.specs.SetUp.{newGame, setUp}
 use Rattle.setup.proofs.SetUp.{item-first, stage-new}
 use Rattle.orders.specs.Orders.{orderVerdict, obeyed, ordered}
 use Rattle.orders.proofs.Stores.{same-set}
-use Rattle.plays.specs.Plays.{Call, PlayFrom, Play}
+use Rattle.plays.specs.Plays.{PlayCall, PlayFrom, Play}
 use Rattle.unstarted.specs.Chains.{Chain}
 use Rattle.unstarted.proofs.Names.{names-unstarted}
 use Rattle.game.proofs.Outcomes.{game-either}
@@ -55,12 +55,12 @@ module _ (book : List ℕ) where
     order-reached kind n other =
         game-either (orderVerdict book g kind n) (obeyed g kind n) g (Reached book) (λ e. obeyed-reached kind n other) h
 
-  from-reached : {g h : Game} {calls : List Call} → PlayFrom book g calls h → NoStarts calls → Reached book g → Reached book h
+  from-reached : {g h : Game} {calls : List PlayCall} → PlayFrom book g calls h → NoStarts calls → Reached book g → Reached book h
   from-reached PlayFrom.here none k = k
   from-reached {g} (PlayFrom.plays buffer e l) none k = from-reached l none (answer-reached book g buffer e k)
   from-reached {g} (PlayFrom.orders kind n l) (other, none) k = from-reached l none (order-reached g k kind n other)
 
-  play-reached : {g : Game} {calls : List Call} → Play book calls g → NoStarts calls → Reached book g
+  play-reached : {g : Game} {calls : List PlayCall} → Play book calls g → NoStarts calls → Reached book g
   unfolding setUp
   play-reached p none = from-reached (p .from) none (rw (p .accepts) new-game-reached)
 

@@ -20,7 +20,7 @@ use Rattle.setup.proofs.SetUp.{set-up-fits}
 use Rattle.round.specs.Answers.{Answer}
 use Rattle.round.proofs.Demand.{round-accepted}
 use Rattle.round.proofs.After.{answer-fits}
-use Rattle.plays.specs.Plays.{Call, PlayFrom, isOver}
+use Rattle.plays.specs.Plays.{PlayCall, PlayFrom, isOver}
 use Rattle.play_listing.specs.Printed.{mostRounds, markBuffer, nextAnswer, linesFrom, linesOfAll, untilOver, printed, PrintsPlay}
 use Rattle.play_listing.proofs.Few.{space-few}
 
@@ -29,7 +29,7 @@ module _ (book : List ℕ) (a : Accepted book) where
   record Rounds (k n : ℕ) (g : Game) : Type 0 where
     answers : List Answer
     game : Game
-    from : PlayFrom book g (map Call.round answers) game
+    from : PlayFrom book g (map PlayCall.round answers) game
     lines : linesFrom book k n g ≡ linesOfAll n answers
     until : untilOver g answers ≡ true
     few : length answers ≤ k

@@ -15,7 +15,7 @@ use Rattle.game.specs.declared.Game.{Game}
 use Rattle.game.specs.Game.{blankGame}
 use Rattle.setup.specs.SetUp.{setUp}
 use Rattle.round.specs.Answers.{numbersPerMark, Answer, answer}
-use Rattle.plays.specs.Plays.{Call, Play, isOver}
+use Rattle.plays.specs.Plays.{PlayCall, Play, isOver}
 use Rattle.listing.specs.Listing.{roundLines, refusalLine}
 
 -- "at most 100 rounds"
@@ -65,7 +65,7 @@ untilOver g (a ∷ answers) = not (isOver g) && untilOver (a .game) answers
 pub record PrintsPlay (book : List ℕ) : Type 0 where
   pub answers : List Answer
   pub game : Game
-  pub play : Play book (map Call.round answers) game
+  pub play : Play book (map PlayCall.round answers) game
   pub lines : printed book ≡ linesOfAll 1 answers
   pub until : untilOver (setUp book (play .lent) .game) answers ≡ true
   pub few : length answers ≤ mostRounds

@@ -30,12 +30,12 @@ use Rattle.tables.proofs.Lists.{below-read}
 use Rattle.passing.specs.Effects.{Marks}
 use Rattle.opening.specs.Games.{HoldsGame, gameOf}
 use Rattle.opening.proofs.Opened.{all-routines, few-routines}
-use Rattle.playing.specs.Playing.{Done, answered}
+use Rattle.playing.specs.Playing.{PassesDone, answered}
 use Rattle.playing.proofs.Marking.{marks-front}
 
 module _
     (book : List ℕ) (g : Game) (a : Accepted book) (f : Fits book g) {counters : List ℤ} {flags : List Bool} {fields : List ℕ}
-    {tally : Tally} {passes : ℕ} {before after : List ℤ} (d : Done book g counters flags fields tally passes before after)
+    {tally : Tally} {passes : ℕ} {before after : List ℤ} (d : PassesDone book g counters flags fields tally passes before after)
   where
     abbrev held : State
     held = stateOf (atStart g .game) counters flags fields (d .given) tally (d .eoi)

@@ -24,7 +24,7 @@ use Rattle.passing.specs.Effects.{marksOf}
 use Rattle.passing.specs.Turns.{Roomy, Ready}
 use Rattle.passing.specs.Passes.{PassesAsk, AfterPasses, passes, passesBy}
 use Rattle.opening.specs.Games.{noTally, Opened}
-use Rattle.playing.specs.Playing.{Done}
+use Rattle.playing.specs.Playing.{PassesDone}
 use Rattle.playing.proofs.Asking as asking
 
 used-below : (l : Line) (i : ℕ) → l .len ≤ mostEntries → i < usedOf l → i < l .len
@@ -78,7 +78,7 @@ module _
         passes (stateOf q counters′ flags′ fields′ given′ tally eoi) (marksOf marks′ (tally .marks)) k
         ≡ passesBy (instant book mostPasses (entriesOf order) (stateOf q counters flags fields given none false))
         (marksOf marks (none .marks)) 0) →
-        Whole room flags′ fields′ tally → Done book g counters′ flags′ fields′ tally k marks marks′
+        Whole room flags′ fields′ tally → PassesDone book g counters′ flags′ fields′ tally k marks marks′
     unfolding round
     passes-done room given given′ counters′ flags′ fields′ none tally eoi k marks marks′ e h whole =
         let same = rw (e, opened .holds given, opened .listed) at (h (atStart g .game)) in

@@ -17,7 +17,7 @@ use Rattle.playing.specs.declared.Played.{Played}
 
 -- the passes of a round from game g are done: the tables hold the state behind them, so many passes were made, and the marks lie in the
 -- buffer that was `before`
-pub record Done
+pub record PassesDone
     (book : List ℕ) (g : Game) (counters : List ℤ) (flags : List Bool) (fields : List ℕ) (tally : Tally) (passes : ℕ)
     (before after : List ℤ) : Type 0 where
   pub given : List ℤ

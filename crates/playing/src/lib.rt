@@ -39,7 +39,7 @@ ghost use Rattle.round.specs.claims.Demand.{Demand3};
 ghost use Rattle.game.specs.declared.Game.{Game};
 ghost use Rattle.rules.specs.Claims.{ByTheRules};
 ghost use Rattle.opening.specs.Games.{noTally, Opened};
-ghost use Rattle.playing.specs.Playing.{Done, answered};
+ghost use Rattle.playing.specs.Playing.{PassesDone, answered};
 
 // "0 mark"
 const OP_MARK: u8 = 0;
@@ -93,7 +93,7 @@ fn play_out(
 ) -> Passes
     requires { ⌜ ((g : Game) × Opened (now book) g order (now counters) (now flags) (now fields)) ⌝ }
     ensures { λ r. ⌜ ((g : Game) → Opened (now (book .entry)) g order (now (counters .entry)) (now (flags .entry)) (now (fields .entry)) →
-        Done (now (book .entry)) g (now (counters .exit)) (now (flags .exit)) (now (fields .exit)) (r .tally) (r .passes)
+        PassesDone (now (book .entry)) g (now (counters .exit)) (now (flags .exit)) (now (fields .exit)) (r .tally) (r .passes)
         (now (marks .entry)) (now (marks .exit))) ⌝ }
 {
     let none = no_tally();

@@ -16,26 +16,26 @@ use Rattle.orders.specs.Orders.{ordered}
 use Rattle.round.specs.Answers.{Answer, answer}
 
 -- what is done in a play: a round is played, with this answer; an order of this kind and number is given, and this is told
-pub data Call : Type 0 where
-  round : Answer → Call
-  order : ℕ → ℕ → Verdict → Call
+pub data PlayCall : Type 0 where
+  round : Answer → PlayCall
+  order : ℕ → ℕ → Verdict → PlayCall
 
 -- what is done from one game on leads to another: rounds that are accepted, each with any buffer for its marks, and orders, which may be
 -- refused
-pub data PlayFrom (book : List ℕ) : Game → List Call → Game → Type 0 where
+pub data PlayFrom (book : List ℕ) : Game → List PlayCall → Game → Type 0 where
   here : {g : Game} → PlayFrom book g [] g
   plays :
-      {g h : Game} {calls : List Call} (buffer : List ℤ) →
+      {g h : Game} {calls : List PlayCall} (buffer : List ℤ) →
       answer book g buffer .verdict ≡ accepted →
       PlayFrom book (answer book g buffer .game) calls h →
       PlayFrom book g (round (answer book g buffer) ∷ calls) h
   orders :
-      {g h : Game} {calls : List Call} (kind n : ℕ) →
+      {g h : Game} {calls : List PlayCall} (kind n : ℕ) →
       PlayFrom book (ordered book g kind n .game) calls h →
       PlayFrom book g (order kind n (ordered book g kind n .verdict) ∷ calls) h
 
 -- a play of a book: what was done since set-up, and the game that it has come to
-pub record Play (book : List ℕ) (calls : List Call) (g : Game) : Type 0 where
+pub record Play (book : List ℕ) (calls : List PlayCall) (g : Game) : Type 0 where
   pub lent : Game
   pub accepts : setUp book lent .verdict ≡ accepted
   pub from : PlayFrom book (setUp book lent .game) calls g

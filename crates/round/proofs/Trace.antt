@@ -29,7 +29,7 @@ trace-agrees book a g f =
       found = found book a g f;
       notFound = not-found book a g f;
       stood = λ before after h r. stood book a g f r before after h;
-      left = left-at book a g f;
+      leftAt = left-at book a g f;
       noEvents = no-events book a g f;
       contents = contents-made book g;
     }

@@ -28,7 +28,7 @@ use Rattle.round.proofs.Demand.{round-accepted}
 use Rattle.rules.specs.Instructions.{nothing}
 use Rattle.rules.specs.Residual.{residual, _⇝_, same}
 use Rattle.rules.specs.Scheduled.{schedulerIn}
-use Rattle.rules.specs.Claims.{Stands, threadsOf, ByTheRules}
+use Rattle.rules.specs.Claims.{StandFor, threadsOf, ByTheRules}
 use Rattle.rules.proofs.Rounds.{round-given}
 use Rattle.rules.proofs.Buffers.{written-marks, written-beyond, written-length}
 
@@ -37,7 +37,7 @@ between : Game → State
 between g = record { game = g; present = []; endSignals = []; numbers = []; moved = false; eoi = false }
 
 -- a game's own threads stand for it
-threads-stand : (book : List ℕ) (a : Accepted book) (g : Game) → Stands book a (threadsOf book a g) g
+threads-stand : (book : List ℕ) (a : Accepted book) (g : Game) → StandFor book a (threadsOf book a g) g
 threads-stand book a g r h = by (decLt r (routinesOf book))
   where
     x : Position
@@ -72,7 +72,7 @@ round-by-the-rules book g buffer e =
             passes = passes;
             scheduler = refl;
             positions = positions;
-            stands = stands;
+            standing = stands;
             fits = round-fits book a g fits;
             markCount = refl;
             buffered = written-marks marks (drop (numbersPerMark * length marks) buffer);

@@ -27,7 +27,7 @@ use Rattle.round.specs.State.{State, withGame}
 use Rattle.round.specs.Ticks.{effectOn}
 use Rattle.round.proofs.Entries.{pushed-entries}
 use Rattle.rules.specs.Instructions.{signal}
-use Rattle.rules.specs.Schedulers.{Stage, Scheduler, isAmong, statusOf, isNotStarted, moved, withSignal, withValue, put}
+use Rattle.rules.specs.Schedulers.{Stage, Scheduler, isAmong, statusOf, isNotStarted, withMove, withSignal, withValue, put}
 use Rattle.rules.specs.Schedulers.{withMark, withOrders, withThreads, toStartPlus, toStopPlus, toSuspendPlus, toResumePlus}
 use Rattle.rules.specs.Scheduled.{schedulerIn}
 use Rattle.rules.proofs.Walks.{Marks, HasRoom}
@@ -69,12 +69,12 @@ module _ (s : State) (ms : Marks) where
   unfolding effectOn schedulerIn
   add-view c v = refl
 
-  pub give-view : (e : ℕ) → schedulerIn (effectOn (Give e) s) ms ≡ moved (withSignal (signal e) (schedulerIn s ms))
+  pub give-view : (e : ℕ) → schedulerIn (effectOn (Give e) s) ms ≡ withMove (withSignal (signal e) (schedulerIn s ms))
   unfolding effectOn schedulerIn
   give-view e = refl
 
   pub give-number-view :
-      (e : ℕ) (v : ℤ) → schedulerIn (effectOn (GiveNumber e v) s) ms ≡ withValue e v (moved (withSignal (signal e) (schedulerIn s ms)))
+      (e : ℕ) (v : ℤ) → schedulerIn (effectOn (GiveNumber e v) s) ms ≡ withValue e v (withMove (withSignal (signal e) (schedulerIn s ms)))
   unfolding effectOn schedulerIn
   give-number-view e v = refl
 

@@ -48,12 +48,12 @@ use Rattle.round.proofs.After.{pass-keeps}
 use Rattle.round.proofs.Waiting.{done-append}
 use Rattle.rules.specs.Instructions.{Status, Instruction}
 use Rattle.rules.specs.Schedulers.{continuing, Scheduler, has, statusOf}
-use Rattle.rules.specs.Instants.{runs, Execution, passedOver, executed, isFinished, rule33, rule34, StepLog, allFinished, InTurn}
+use Rattle.rules.specs.Instants.{withRun, Execution, passedOver, executed, isFinished, rule33, rule34, StepLog, allFinished, InTurn}
 use Rattle.rules.specs.Instants.{none, next, ExecutionStep, rule35, rule36, Log, rule37, rule38}
 use Rattle.rules.specs.Positions.{lastIn, lastOf}
 use Rattle.rules.specs.Residual.{residual, _⇝_}
 use Rattle.rules.specs.Scheduled.{schedulerIn}
-use Rattle.rules.specs.Claims.{Stands, TurnByRules, PassByRules, InstantByRules}
+use Rattle.rules.specs.Claims.{StandFor, TurnByRules, PassByRules, InstantByRules}
 use Rattle.rules.proofs.Naming.{given}
 use Rattle.rules.proofs.Walks.{Marks, Shows, endsAs, restsAs, missesAs, continuesAs}
 use Rattle.rules.proofs.Taken.{marks-then, ends-of}
@@ -88,7 +88,7 @@ module _ (book : List ℕ) (a : Accepted book) where
   R = routinesOf book
 
   module _
-      (r : ℕ) (l : r < R) (run : ℕ → Instruction) (s : State) (stand : Stands book a run (s .game)) (sound : Sound book s)
+      (r : ℕ) (l : r < R) (run : ℕ → Instruction) (s : State) (stand : StandFor book a run (s .game)) (sound : Sound book s)
     where
       abbrev x : Routine
       x = routineAt (s .game) r
@@ -102,15 +102,15 @@ module _ (book : List ℕ) (a : Accepted book) where
       -- behind a turn with an instruction i for what is left of its routine
       stands-after :
           (i : Instruction) → isGoing s r ≡ true → i ⇝ residual book a r l (t .position) →
-          Stands book a (runs run r i) (afterTurn r t .game)
-      unfolding runs
+          StandFor book a (withRun run r i) (afterTurn r t .game)
+      unfolding withRun
       stands-after i going w q m =
           let after : ℕ → Position = λ p. positionOf (routineAt (afterTurn r t .game) p) in
           elim (ℕ-discrete q r) [
             | yes e ↦
                 let standing = turn-untouched book r s .standings r in
                 let own : after r ≡ t .position = position-after r s t standing going in
-                subst (λ q. (m : q < R) → runs run r i q ⇝ residual book a q m (after q)) (sym e)
+                subst (λ q. (m : q < R) → withRun run r i q ⇝ residual book a q m (after q)) (sym e)
                 (λ m. rw (eq-eqb r r refl, own) (subst (λ m. i ⇝ residual book a r m (t .position)) (le-prop l m) w))
                 m
             | no n ↦
@@ -135,7 +135,7 @@ module _ (book : List ℕ) (a : Accepted book) where
               | inr e ↦ inr (λ c. stage-pauses (x .stage) e (sym (stage-seen s ms r) ∙ c))
             ]
             in
-            (run, passedOver, record { derived = rw append-nil (rule33 why); finished = refl; stands = stand }, same-standing)
+            (run, passedOver, record { derived = rw append-nil (rule33 why); finished = refl; standing = stand }, same-standing)
 
         turn-taken-rule : isGoing s r ≡ true → ByRule (taken r t)
         turn-taken-rule going =
@@ -147,12 +147,12 @@ module _ (book : List ℕ) (a : Accepted book) where
             let thread =
             rule34 (suspended-seen s ms r ∙ unsuspended) (stage-seen s ms r ∙ stage-continues (x .stage) stage) (to .rule) in
             let standing = turn-untouched book r s .standings r in (
-              runs run r (to .after),
+              withRun run r (to .after),
               executed (to .status),
               record {
                 derived = rw (after-seen r t (ms ++ marksIn (t .trace)) (to .shows)) thread;
                 finished = done-turn (to .shows);
-                stands = stands-after (to .after) going (to .leaves);
+                standing = stands-after (to .after) going (to .leaves);
               },
               shows-behind book r (s .game) (afterTurn r t .game) (size-same book a r l) (to .shows) (position-after r s t standing going)
                   (after-going r s t standing going),
@@ -165,7 +165,7 @@ module _ (book : List ℕ) (a : Accepted book) where
 
   -- a turn, without where it leaves its routine
   pub turn-by-rules :
-      (r : ℕ) → r < R → (run : ℕ → Instruction) (s : State) (ms : Marks) → Stands book a run (s .game) → Sound book s →
+      (r : ℕ) → r < R → (run : ℕ → Instruction) (s : State) (ms : Marks) → StandFor book a run (s .game) → Sound book s →
       (run′ : ℕ → Instruction) × (e : Execution) × TurnByRules book a run s ms run′ r (turn book r s) e
   turn-by-rules r l run s ms stand sound = let (to, e, rule, _) = turn-given r l run s stand sound ms in (to, e, rule)
 
@@ -185,10 +185,10 @@ module _ (book : List ℕ) (a : Accepted book) where
 
   -- some routines in turn
   turns-by-rules :
-      (rs : List ℕ) → All (λ r. r < R) rs → (run : ℕ → Instruction) (s : State) (ms : Marks) → Stands book a run (s .game) →
+      (rs : List ℕ) → All (λ r. r < R) rs → (run : ℕ → Instruction) (s : State) (ms : Marks) → StandFor book a run (s .game) →
       Sound book s → let d = pass book rs s in
       (to : ℕ → Instruction) × (l : StepLog) × InTurn rs run (schedulerIn s ms) l to (schedulerIn (d .state) (ms ++ marksIn (d .trace)))
-      × (allFinished l ≡ allDone (d .turns)) × Stands book a to (d .state .game) × AllBehind l (s .game) (d .state .game)
+      × (allFinished l ≡ allDone (d .turns)) × StandFor book a to (d .state .game) × AllBehind l (s .game) (d .state .game)
   unfolding pass lastIn allFinished
   turns-by-rules [] b run s ms stand sound =
       unfold allDone marksIn in (run, [], rw append-nil none, refl, stand, λ q m. same-standing)
@@ -197,7 +197,7 @@ module _ (book : List ℕ) (a : Accepted book) where
       let sound-first = turn-sound book a r s (b .0) sound in
       let (to, e, rule, own) = turn-given r (b .0) run s stand sound ms in
       let (last, l, others, done, stand-last, behind) =
-      turns-by-rules rs (b .1) to (first .state) (ms ++ marksIn (first .trace)) (rule .stands) sound-first in (
+      turns-by-rules rs (b .1) to (first .state) (ms ++ marksIn (first .trace)) (rule .standing) sound-first in (
         last,
         (r, e) ∷ l,
         rw (← marks-then) (next (rule .derived) others),
@@ -211,20 +211,20 @@ module _ (book : List ℕ) (a : Accepted book) where
   listed s = entriesOf (s .game .listed)
 
   pass-given :
-      (run : ℕ → Instruction) (s : State) (ms : Marks) → Stands book a run (s .game) → Sound book s →
+      (run : ℕ → Instruction) (s : State) (ms : Marks) → StandFor book a run (s .game) → Sound book s →
       let d = pass book (entriesOf (s .game .listed)) s in
       (run′ : ℕ → Instruction) × (l : StepLog) × PassByRules book a run s ms run′ d l × AllBehind l (s .game) (d .state .game)
   pass-given run s ms stand sound =
       let (to, l, rule, done, stands, behind) = turns-by-rules (listed s) (listed-below sound) run s ms stand sound in
-      (to, l, record { derived = execution (actual-seen s ms) rule; finished = done; stands = stands }, behind)
+      (to, l, record { derived = execution (actual-seen s ms) rule; finished = done; standing = stands }, behind)
 
   pub pass-by-rules :
-      (run : ℕ → Instruction) (s : State) (ms : Marks) → Stands book a run (s .game) → Sound book s →
+      (run : ℕ → Instruction) (s : State) (ms : Marks) → StandFor book a run (s .game) → Sound book s →
       (run′ : ℕ → Instruction) × (l : StepLog) × PassByRules book a run s ms run′ (pass book (entriesOf (s .game .listed)) s) l
   pass-by-rules run s ms stand sound = let (to, l, rule, _) = pass-given run s ms stand sound in (to, l, rule)
 
   pub instant-given :
-      (n : ℕ) (run : ℕ → Instruction) (s : State) (ms : Marks) → Stands book a run (s .game) → Sound book s →
+      (n : ℕ) (run : ℕ → Instruction) (s : State) (ms : Marks) → StandFor book a run (s .game) → Sound book s →
       RoundEnds book n (entriesOf (s .game .listed)) s →
       let d = instant book n (entriesOf (s .game .listed)) s in
       (run′ : ℕ → Instruction) × (log : Log) × InstantByRules book a run s ms run′ d log
@@ -236,7 +236,7 @@ module _ (book : List ℕ) (a : Accepted book) where
       rw done (
         to,
         l ∷ [],
-        record { derived = rule37 (rule .derived) (rule .finished ∙ done); passes = refl; stands = rule .stands },
+        record { derived = rule37 (rule .derived) (rule .finished ∙ done); passes = refl; standing = rule .standing },
         behind,
       )
   instant-given (suc n) run s ms stand sound (inr (undone, ends)) =
@@ -248,7 +248,7 @@ module _ (book : List ℕ) (a : Accepted book) where
       let sound-again = next-pass-sound (first .state) sound-last in
       let (to, l, rule, behind) = pass-given run s ms stand sound in
       let flags = next-pass-seen (first .state) (ms ++ marksIn (first .trace)) in
-      given (rw same at (instant-given n to u (ms ++ marksIn (first .trace)) (rule .stands) sound-again (rw same ends)))
+      given (rw same at (instant-given n to u (ms ++ marksIn (first .trace)) (rule .standing) sound-again (rw same ends)))
       (λ (last, log, others, later).
       rw undone (
         last,
@@ -256,13 +256,13 @@ module _ (book : List ℕ) (a : Accepted book) where
         record {
           derived = rw (← marks-then) (rule38 {run″ = last} (rule .derived) (rule .finished ∙ undone) (rw flags at (others .derived)));
           passes = ap (λ k. k + 1) (others .passes) ∙ add-one (length log);
-          stands = others .stands;
+          standing = others .standing;
         },
         λ q m. behind-then book q (lastIn q l) (lastOf q log) (s .game) (first .state .game) _ (behind q m) (later q m),
       ))
 
   pub instant-by-rules :
-      (n : ℕ) (run : ℕ → Instruction) (s : State) (ms : Marks) → Stands book a run (s .game) → Sound book s →
+      (n : ℕ) (run : ℕ → Instruction) (s : State) (ms : Marks) → StandFor book a run (s .game) → Sound book s →
       RoundEnds book n (entriesOf (s .game .listed)) s →
       (run′ : ℕ → Instruction) × (log : Log) × InstantByRules book a run s ms run′ (instant book n (entriesOf (s .game .listed)) s) log
   instant-by-rules n run s ms stand sound ends = let (to, log, rule, _) = instant-given n run s ms stand sound ends in (to, log, rule)

@@ -28,7 +28,7 @@ use Rattle.rules.specs.Instructions.{Instruction}
 use Rattle.rules.specs.Instants.{Log, Round}
 use Rattle.rules.specs.Positions.{lastOf, LeftBy}
 use Rattle.rules.specs.Scheduled.{schedulerIn}
-use Rattle.rules.specs.Claims.{Stands}
+use Rattle.rules.specs.Claims.{StandFor}
 use Rattle.rules.proofs.Walks.{Marks}
 use Rattle.rules.proofs.Chaining.{chains}
 use Rattle.rules.proofs.Left.{left-at}
@@ -36,7 +36,7 @@ use Rattle.rules.proofs.Passes.{instant-given}
 
 module _ (book : List ℕ) (a : Accepted book) where
   -- the eight actions leave every routine where it stands
-  at-start-stands : (run : ℕ → Instruction) (g : Game) → Stands book a run g → Stands book a run (atStart g .game)
+  at-start-stands : (run : ℕ → Instruction) (g : Game) → StandFor book a run g → StandFor book a run (atStart g .game)
   at-start-stands run g stand r l = rw (at-start-positions g r) (stand r l)
 
   -- a listed routine takes no turn behind a round, and one that is not listed is not in stage 1
@@ -50,11 +50,11 @@ module _ (book : List ℕ) (a : Accepted book) where
       (λ off. off)
 
   pub round-given :
-      (run : ℕ → Instruction) (s : State) (ms : Marks) (f : Fits book (s .game)) → Stands book a run (s .game) →
+      (run : ℕ → Instruction) (s : State) (ms : Marks) (f : Fits book (s .game)) → StandFor book a run (s .game) →
       let d = round book (s .game) in
       (run′ : ℕ → Instruction) × (log : Log)
       × Round log run (schedulerIn s ms) run′ (schedulerIn (d .played .state) (ms ++ marksIn (d .played .trace)))
-      × (d .passes ≡ length log) × Stands book a run′ (d .played .state .game)
+      × (d .passes ≡ length log) × StandFor book a run′ (d .played .state .game)
       × ((r : ℕ) → r < routinesOf book →
       LeftBy (stepCount book r) (positionOf (routineAt (s .game) r)) (lastOf r log) (positionOf (routineAt (d .played .state .game) r)))
   unfolding round
@@ -68,6 +68,6 @@ module _ (book : List ℕ) (a : Accepted book) where
         log,
         rw (chains book s ms range f) (rule .derived),
         rule .passes,
-        rule .stands,
+        rule .standing,
         λ r l. rw (at-start-positions g r) at (left-at book r (lastOf r log) (atStart g .game) _ (behind r l) (none-turns g f r l)),
       )

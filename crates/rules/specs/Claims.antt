@@ -26,8 +26,8 @@ use Rattle.rules.specs.Scheduled.{nothingPresent, schedulerOf, scheduler
 
 module _ (book : List ℕ) (a : Accepted book) where
   -- each thread is to run what is left of its routine where the game has it, but for nothings in front
-  abbrev pub Stands : (ℕ → Instruction) → Game → Type 0
-  Stands run g = (r : ℕ) (h : r < routinesOf book) → run r ⇝ residual book a r h (positionOf (routineAt g r))
+  abbrev pub StandFor : (ℕ → Instruction) → Game → Type 0
+  StandFor run g = (r : ℕ) (h : r < routinesOf book) → run r ⇝ residual book a r h (positionOf (routineAt g r))
 
   -- What a turn, a pass or a round's passes do from state s, with these marks made before: the rules lead from the scheduler of s to that
   -- of the state behind them, with their marks behind the others, and to threads run′ that stand for its game.
@@ -36,20 +36,20 @@ module _ (book : List ℕ) (a : Accepted book) where
     pub record TurnByRules (r : ℕ) (d : PlayedTurns) (x : Execution) : Type 0 where
       pub derived : Thread r run (schedulerIn s marks) x run′ (schedulerIn (d .state) (marks ++ marksIn (d .trace)))
       pub finished : isFinished x ≡ allDone (d .turns)
-      pub stands : Stands run′ (d .state .game)
+      pub standing : StandFor run′ (d .state .game)
 
     -- "pass = one scheduler execution step (rules 35 and 36)"
     pub record PassByRules (d : PlayedTurns) (l : StepLog) : Type 0 where
       pub derived : ExecutionStep run (schedulerIn s marks) l run′ (schedulerIn (d .state) (marks ++ marksIn (d .trace)))
       pub finished : allFinished l ≡ allDone (d .turns)
-      pub stands : Stands run′ (d .state .game)
+      pub standing : StandFor run′ (d .state .game)
 
     -- The passes of a round: rules 37 and 38. "A sequence of execution steps leading to a situation where all threads are finished for the
     -- current instant defines a complete instant"; it has as many steps as there are passes.
     pub record InstantByRules (d : PlayedRound) (log : Log) : Type 0 where
       pub derived : Instant log run (schedulerIn s marks) run′ (schedulerIn (d .played .state) (marks ++ marksIn (d .played .trace)))
       pub passes : d .passes ≡ length log
-      pub stands : Stands run′ (d .played .state .game)
+      pub standing : StandFor run′ (d .played .state .game)
 
   -- the threads of a game: each is to run what is left of its routine
   abbrev pub threadsOf : Game → ℕ → Instruction
@@ -72,7 +72,7 @@ module _ (book : List ℕ) (a : Accepted book) where
         (r : ℕ) → r < routinesOf book →
         LeftBy (stepCount book r) (positionOf (routineAt g r)) (lastOf r log) (positionOf (routineAt (answer .game) r))
     -- and there is left to be run of it what the rules left to its thread
-    pub stands : Stands run (answer .game)
+    pub standing : StandFor run (answer .game)
     -- what of the game the rules don't speak of: R, E and C, and nothing beyond them or behind a list
     pub fits : Fits book (answer .game)
     pub markCount : answer .marks ≡ length (σ .env .marks)

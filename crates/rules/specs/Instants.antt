@@ -9,12 +9,12 @@ use lib.ListN.{set}
 use Rattle.numbers.specs.Choice.{if_then_else_}
 use Rattle.rules.specs.Instructions.{Status, TERM, COOP, CONT, term, Instruction}
 use Rattle.rules.specs.Schedulers.{Stage, notStarted, continuing, rested, ended, stopped, stageBy, Scheduler, withActual}
-use Rattle.rules.specs.Schedulers.{withCurrent, withOrders, withThreads, has, statusOf, moved, withSignal}
+use Rattle.rules.specs.Schedulers.{withCurrent, withOrders, withThreads, has, statusOf, withMove, withSignal}
 use Rattle.rules.specs.Rules.{⟨_&_⟩⟶[_]⟨_&_⟩}
 
 -- t[run := inst], for the instructions of all threads
-unfoldable pub runs : (ℕ → Instruction) → ℕ → Instruction → ℕ → Instruction
-runs run t inst u = if eqb u t then inst else run u
+unfoldable pub withRun : (ℕ → Instruction) → ℕ → Instruction → ℕ → Instruction
+withRun run t inst u = if eqb u t then inst else run u
 
 -- t[status := α]
 abbrev pub withStatus : ℕ → Status → Scheduler → Scheduler
@@ -22,7 +22,7 @@ withStatus t α σ = withThreads σ (record { status = set (σ .threads .status)
 
 -- sched″ of rule 34: sched′[events += term(t)][move := true] if α = TERM, and sched′ otherwise
 abbrev pub withTermination : Status → ℕ → Scheduler → Scheduler
-withTermination TERM t σ = moved (withSignal (term t) σ)
+withTermination TERM t σ = withMove (withSignal (term t) σ)
 withTermination (COOP w) t σ = σ
 withTermination CONT t σ = σ
 
@@ -48,7 +48,7 @@ pub data Thread (t : ℕ) : (ℕ → Instruction) → Scheduler → Execution �
   rule34 :
       {run : ℕ → Instruction} {inst : Instruction} {σ σ′ : Scheduler} {α : Status} →
       has (σ .threads .susp) t ≡ false → statusOf σ t ≡ continuing → ⟨ run t & σ ⟩⟶[ α ]⟨ inst & σ′ ⟩ →
-      Thread t run σ (executed α) (runs run t inst) (withTermination α t (withStatus t α σ′))
+      Thread t run σ (executed α) (withRun run t inst) (withTermination α t (withStatus t α σ′))
 
 -- what each thread does in an execution step, in turn
 abbrev pub StepLog : Type 0
@@ -84,7 +84,7 @@ forNextStep σ =
     record { signals = c .signals; terms = c .terms; values = c .values; eoi = not (c .move); move = false }
     )
 
--- the log of an instant, one of each of its execution steps
+-- the log of an instant: one for each of its execution steps
 abbrev pub Log : Type 0
 Log = List StepLog
 

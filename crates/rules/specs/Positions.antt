@@ -17,12 +17,12 @@ pausedAt (misses p) = fresh p
 pausedAt (missesFor p k) = begunAt p k
 pausedAt (unread p) = fresh (p + 1)
 
--- of two executions of a thread the second, unless it is passedOver there
+-- of two executions of a thread the second, unless it is passed over there
 abbrev pub secondOr : Execution → Execution → Execution
 secondOr x passedOver = x
 secondOr x (executed α) = executed α
 
--- what thread t does last in an execution step, and in an instant: the last time that it is not passedOver
+-- what thread t does last in an execution step, and in an instant: the last time that it is not passed over
 unfoldable pub lastIn : ℕ → StepLog → Execution
 lastIn t [] = passedOver
 lastIn t ((u, x) ∷ l) = secondOr (if eqb u t then x else passedOver) (lastIn t l)

@@ -10,7 +10,7 @@ use Rattle.rules.specs.Instructions.{rests, restsFor, misses, missesFor,
 use Rattle.rules.specs.Instructions.{Call, Expression, Instruction, nothing, call}
 use Rattle.rules.specs.Instructions.{_then_, while, whileInst, ifElse, cooperate, await, generate, generateValue, join, create, stop}
 use Rattle.rules.specs.Instructions.{suspend, resume, cooperateN, awaitN, joinN, getValue}
-use Rattle.rules.specs.Schedulers.{Scheduler, statusOf, hasEnded, isPresent, moved, withSignal, withValue, valuesOf, content}
+use Rattle.rules.specs.Schedulers.{Scheduler, statusOf, hasEnded, isPresent, withMove, withSignal, withValue, valuesOf, content}
 use Rattle.rules.specs.Schedulers.{Called, returned, toStartPlus, toStopPlus, toSuspendPlus, toResumePlus}
 
 -- the expression is true in the environment; it changes nothing there
@@ -70,10 +70,10 @@ pub data ⟨_&_⟩⟶[_]⟨_&_⟩ : Instruction → Scheduler → Status → Ins
   -- 4.5 Cooperate
   rule11 : {p : ℕ} {σ : Scheduler} → ⟨ cooperate p & σ ⟩⟶[ COOP (rests p) ]⟨ nothing & σ ⟩
   -- 4.6 Generate
-  rule12 : {e : ℕ} {σ : Scheduler} → ⟨ generate e & σ ⟩⟶[ TERM ]⟨ nothing & moved (withSignal (signal e) σ) ⟩
+  rule12 : {e : ℕ} {σ : Scheduler} → ⟨ generate e & σ ⟩⟶[ TERM ]⟨ nothing & withMove (withSignal (signal e) σ) ⟩
   rule13 :
       {e c : ℕ} {σ : Scheduler} →
-      ⟨ generateValue e c & σ ⟩⟶[ TERM ]⟨ nothing & withValue e (content σ c) (moved (withSignal (signal e) σ)) ⟩
+      ⟨ generateValue e c & σ ⟩⟶[ TERM ]⟨ nothing & withValue e (content σ c) (withMove (withSignal (signal e) σ)) ⟩
   -- 4.7 Await
   rule14 : {p : ℕ} {e : Signal} {σ : Scheduler} → Present e σ → ⟨ await p e & σ ⟩⟶[ TERM ]⟨ nothing & σ ⟩
   rule15 :

@@ -105,8 +105,8 @@ isPresent (signal e) σ = has (σ .current .signals) e
 isPresent (term t) σ = has (σ .current .terms) t
 
 -- sched[move := true]
-abbrev pub moved : Scheduler → Scheduler
-moved σ =
+abbrev pub withMove : Scheduler → Scheduler
+withMove σ =
     withCurrent σ (
     let c = σ .current in
     record { signals = c .signals; terms = c .terms; values = c .values; eoi = c .eoi; move = true }

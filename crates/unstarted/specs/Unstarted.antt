@@ -15,7 +15,8 @@ use Rattle.layout.specs.Layout.{mostRoutines, routinesOf}
 use Rattle.directory.specs.Directory.{routineSteps}
 use Rattle.book.specs.Book.{bookVerdict}
 
--- what a search has found so far: a flag for each number that a byte can hold, and those found, in the order in which they were found, so many
+-- what a search has found so far: a flag for each number that a byte can hold, and those found, in the order in which they were found, so
+-- many
 pub record Search : Type 0 where
   pub flags : List Bool
   pub order : List ℕ

@@ -140,7 +140,7 @@ pub record TraceAgrees (book : List ℕ) (g : Game) : Type 0 where
       (h ≡ completed r p) ⊎ ((t : Thing) × (h ≡ missing r p t)) →
       positionAfter book r before (g .counters, []) (positionOf (routineAt g r)) .place ≡ p
   -- and where a routine that plays stands by the whole trace, there its last turn leaves it: with both, no step is left out
-  pub left :
+  pub leftAt :
       (r : ℕ) → Plays g r →
       LeftAt book r (positionAfter book r (traceOf book g) (g .counters, []) (positionOf (routineAt g r))) (traceOf book g)
       (routineAt (stateAfter book g .game) r)

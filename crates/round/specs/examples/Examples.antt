@@ -33,12 +33,12 @@ use Rattle.round.specs.Rounds.{Ticks, ticks, mostTicks, allDone, ticksOf
 use Rattle.round.specs.Answers.{marksIn, written, roundVerdict, Answer, answer}
 
 -- a book's game from set-up
-abbrev pub first : List ℕ → Game
-first b = newGame (countsOf b)
+abbrev pub fromSetUp : List ℕ → Game
+fromSetUp b = newGame (countsOf b)
 
 -- the game of T3 before its second round, in which it leaves its mark
 abbrev pub afterOne : Game
-afterOne = answer t3 (first t3) (pos 0 ∷ pos 0 ∷ []) .game
+afterOne = answer t3 (fromSetUp t3) (pos 0 ∷ pos 0 ∷ []) .game
 
 -- "the place on the step that follows it in the book": if counter 0 equals 0, rest; else, rest
 abbrev pub restsInBoth : List ℕ
@@ -58,7 +58,7 @@ restsInOne = oneRoutine (while 0 equal (pos 0) ∷ if 0 equal (pos 1) ∷ rest �
 
 -- the steps that its routine would take in a turn, if it were accepted
 abbrev pub stepsOn : Ticks
-stepsOn = ticksOf restsInOne 0 (atStart (first restsInOne))
+stepsOn = ticksOf restsInOne 0 (atStart (fromSetUp restsInOne))
 
 pub record Example : Type 0 where
   pub book : List ℕ
@@ -83,8 +83,8 @@ examples =
     refusedWith [] blankGame [] 1
     ∷ refusedWith restsInOne blankGame [] 7
     ∷ refusedWith t3 blankGame [] 9
-    ∷ refusedWith t3 (first t3) [] 10
-    ∷ refusedWith t3 (first t3) (pos 5 ∷ []) 10
+    ∷ refusedWith t3 (fromSetUp t3) [] 10
+    ∷ refusedWith t3 (fromSetUp t3) (pos 5 ∷ []) 10
     ∷ []
 
 -- the trace of T3's first round: routine 0 starts routine 1, and misses its signal in both passes
@@ -107,12 +107,12 @@ turns = Took Continued ∷ Took Ended ∷ Took Ended ∷ PassedOver ∷ []
 -- of them the last
 pub as-told :
     (map (λ e. answer (e .book) (e .game) (e .buffer)) examples ≡ map (λ e. e .answer) examples)
-    × (round t3 (first t3) .played .trace ≡ firstTrace)
+    × (round t3 (fromSetUp t3) .played .trace ≡ firstTrace)
     × (round t3 afterOne .played .trace ≡ events)
     × (round t3 afterOne .played .turns ≡ turns)
     × (answer t3 afterOne (pos 5 ∷ pos 6 ∷ pos 8 ∷ []) .buffer ≡ pos 0 ∷ pos 7 ∷ pos 8 ∷ [])
-    × (routineAt (answer restsInBoth (first restsInBoth) [] .game) 0 .place ≡ 2)
-    × (routineAt (answer marksInBoth (first marksInBoth) roomForTwo .game) 0 .place ≡ 2)
+    × (routineAt (answer restsInBoth (fromSetUp restsInBoth) [] .game) 0 .place ≡ 2)
+    × (routineAt (answer marksInBoth (fromSetUp marksInBoth) roomForTwo .game) 0 .place ≡ 2)
     × (stepsOn .ending ≡ Continued)
     × (length (stepsOn .trace) ≡ mostTicks (routineSteps restsInOne 0))
 unfolding answer roundVerdict written marksIn sumBelow round instant pass turn allDone ticks effectOn tick tickOf waitsFor fromEnd

@@ -31,24 +31,24 @@ use Rattle.round.specs.Rounds.{ticks, allDone, turn, pass, instant, Play
 use Rattle.round.specs.Answers.{marksIn}
 
 -- what is seen of a round: its passes, its marks, each a routine and a number, and behind it the routines and the counters of the book
-pub record Seen : Type 0 where
+pub record OpsSeen : Type 0 where
   pub passes : ℕ
   pub marks : List (ℕ × ℤ)
   pub routines : List Routine
   pub counters : List ℤ
 
 -- what is done: a round is played, and this is seen of it; an order of this kind and number is given
-pub data Done : Type 0 where
-  played : Seen → Done
-  order : ℕ → ℕ → Done
+pub data OpsCall : Type 0 where
+  played : OpsSeen → OpsCall
+  order : ℕ → ℕ → OpsCall
 
 -- a book, and what is done from set-up on
-pub record Row : Type 0 where
+pub record OpsRow : Type 0 where
   pub book : List ℕ
-  pub done : List Done
+  pub done : List OpsCall
 
-abbrev pub seenIn : PlayedRound → Seen
-seenIn p =
+abbrev pub opsSeen : PlayedRound → OpsSeen
+opsSeen p =
     let g = p .played .state .game in
     record {
       passes = p .passes;
@@ -58,19 +58,19 @@ seenIn p =
     }
 
 -- the same by the definitions, from game g on; a game from set-up passes the checks of rounds and orders, so they are left out
-unfoldable pub doneFrom : List ℕ → List Done → Game → List Done
+unfoldable pub doneFrom : List ℕ → List OpsCall → Game → List OpsCall
 doneFrom book [] g = []
 doneFrom book (played _ ∷ others) g =
     let p = round book g in
-    played (seenIn p) ∷ doneFrom book others (p .played .state .game)
+    played (opsSeen p) ∷ doneFrom book others (p .played .state .game)
 doneFrom book (order kind n ∷ others) g = order kind n ∷ doneFrom book others (obeyed g kind n)
 
 -- a refused book would leave the blank game, which has no routines
-abbrev pub carriedOut : Row → Row
+abbrev pub carriedOut : OpsRow → OpsRow
 carriedOut row = record { book = row .book; done = doneFrom (row .book) (row .done) (setUp (row .book) blankGame .game) }
 
 -- a round of so many passes, with these marks, that leaves these routines and counters
-abbrev pub gives : ℕ → List (ℕ × ℤ) → List Routine → List ℤ → Done
+abbrev pub gives : ℕ → List (ℕ × ℤ) → List Routine → List ℤ → OpsCall
 gives passes marks routines counters =
     played (record { passes = passes; marks = marks; routines = routines; counters = counters })
 
@@ -89,7 +89,7 @@ minus n = negℤ (pos n)
 
 -- "0 mark .. writes a mark: routine, n", "1 set, 2 add .. counter becomes n; n is added", "3 take .. b's content is added to a", "An
 -- addition beyond an end gives that end."
-abbrev pub counting : Row
+abbrev pub counting : OpsRow
 counting =
     record {
       book =
@@ -108,7 +108,7 @@ counting =
 -- "5 signal with number .. rule 13, with b's content", "12 read .. rules 30 to 32; the k-th number goes to b": signal 0 gets the numbers
 -- 11 and 33 and no third, signal 1 gets 22, and a signal by op 4 has no number. The signals set the move flag, so the third pass is the
 -- first with eoi set; "a reading that stayed missing, leaves the place on the step that follows it in the book".
-abbrev pub reading : Row
+abbrev pub reading : OpsRow
 reading =
     record {
       book =
@@ -130,7 +130,7 @@ reading =
 
 -- "4 signal .. rule 12", "8 wait .. rules 14 to 16", and of orders "0 broadcast a signal": signal 0 is there, and signal 1 is missing until
 -- it is broadcast; "every other pause leaves it on its own step".
-abbrev pub waiting : Row
+abbrev pub waiting : OpsRow
 waiting =
     record {
       book = book 2 0 ((signal 0 ∷ wait 0 ∷ wait 1 ∷ mark (pos 3) ∷ []) ∷ []);
@@ -144,7 +144,7 @@ waiting =
 
 -- "9 wait n .. rules 25 to 27": past at once with n below 0; past in the third round with n = 2 and no signal; past with a count left once
 -- the signal is there. "Begun is set when op 7, 9 or 11 pauses, and cleared when that step is past."
-abbrev pub waitingFor : Row
+abbrev pub waitingFor : OpsRow
 waitingFor =
     record {
       book =
@@ -160,7 +160,7 @@ waitingFor =
 
 -- "6 rest, 7 rest n .. rules 11; 23, 24": past at once with n = 0 and n below 0, and in the third round with n = 2. Op 6 "leaves the place
 -- on the step that follows it in the book", here the else, and "A place on an else stands for the end of the first block".
-abbrev pub resting : Row
+abbrev pub resting : OpsRow
 resting =
     record {
       book =
@@ -181,7 +181,7 @@ resting =
 
 -- "10 join, 11 join n .. rules 17, 18; 28, 29": join 1 for 0 is past at once, join 1 for 1 in its second round, though routine 1 goes on;
 -- join 1 for 2 and join 2 are past in the rounds in which routines 1 and 2 end, rounds 3 and 4.
-abbrev pub joining : Row
+abbrev pub joining : OpsRow
 joining =
     record {
       book =
@@ -209,7 +209,7 @@ marksOn = while 0 equal (pos 0) ∷ mark (pos 5) ∷ rest ∷ end ∷ []
 
 -- "13 start, 14 stop, 15 suspend, 16 resume .. rules 19 to 22": routine 0 takes one a round, and it holds from the next round on. A routine
 -- that is suspended has no turn (rule 33); "Starting gives stage 1. Stopping gives stage 4 to a listed routine in stage 1 or 2".
-abbrev pub bySteps : Row
+abbrev pub bySteps : OpsRow
 bySteps =
     record {
       book = book 0 1 ((start 1 ∷ rest ∷ suspend 1 ∷ rest ∷ resume 1 ∷ rest ∷ stop 1 ∷ rest ∷ []) ∷ marksOn ∷ []);
@@ -224,7 +224,7 @@ bySteps =
 
 -- "Outside orders, by kind: 0 broadcast a signal, 1 start, 2 stop, 3 suspend, 4 resume. Each joins its list for the next round.": the
 -- same of routine 1; with both at once, "a resume comes before a suspend".
-abbrev pub byOrders : Row
+abbrev pub byOrders : OpsRow
 byOrders =
     record {
       book = book 0 1 ([] ∷ marksOn ∷ []);
@@ -251,7 +251,7 @@ ifs relation m =
 
 -- "17 if .. b relation (0 equal, 1 less, 2 greater), n .. counter against n", "an if one or two (a missing second does nothing)": counter 0
 -- is −1, 0 and 1 in rounds 1 to 3.
-abbrev pub testing : Row
+abbrev pub testing : OpsRow
 testing =
     record {
       book =
@@ -271,7 +271,7 @@ abbrev pub loop : ℕ → ℤ → ℤ → ℕ → List (List ℕ)
 loop relation n by m = while 0 relation n ∷ mark (pos m) ∷ add 0 by ∷ rest ∷ end ∷ []
 
 -- "19 while .. counter against n", "A place .. on a while's end for its next test": each of three tests holds once, and then no more.
-abbrev pub looping : Row
+abbrev pub looping : OpsRow
 looping =
     record {
       book = book 0 1 ((loop equal (pos 0) (pos 1) 1 ++ loop less (pos 2) (pos 1) 2 ++ loop greater (pos 1) (minus 1) 3) ∷ []);
@@ -283,11 +283,11 @@ looping =
           ∷ [];
     }
 
-abbrev pub table : List Row
-table =
+abbrev pub opsTable : List OpsRow
+opsTable =
     counting ∷ reading ∷ waiting ∷ waitingFor ∷ resting ∷ joining ∷ bySteps ∷ byOrders ∷ testing ∷ looping ∷ []
 
-pub as-played : map carriedOut table ≡ table
+pub as-played : map carriedOut opsTable ≡ opsTable
 unfolding doneFrom obeyed marksIn sumBelow round instant pass turn allDone ticks effectOn tick tickOf waitsFor fromEnd openingBefore
     pastPartner atStart each kept appended isThere isEndThere numbersWith setUp newGame withStart isIn anyBelow bookVerdict layoutVerdict
     directoryVerdict stepsVerdict nestingVerdict pausingVerdict routineWalk routinePart routineOf stepOf blockBy partnerOf viewAt stepAt
