@@ -33,7 +33,9 @@ module _ (s : List ℕ) (g : Game) where
   past-fit w a f = rw (book-reason-only s (BookReason.nothing a), fits-decides s (a .laid .counts) g .1 f)
 
   -- a claim follows if it does from a refusal of the book, from a game that does not fit it, and from one that does
-  by-book : {P : Type 0} {k p : ℕ} → (k ≡ 0 → Accepted s) → BookReason s k p → ((j : ℕ) → BookReason s (suc j) p → P) → (Accepted s → P) → P
+  by-book :
+      {P : Type 0} {k p : ℕ} → (k ≡ 0 → Accepted s) → BookReason s k p →
+      ((j : ℕ) → BookReason s (suc j) p → P) → (Accepted s → P) → P
   by-book {k = zero} accepts t refusal acceptance = acceptance (accepts refl)
   by-book {k = suc k} accepts t refusal acceptance = refusal k t
 

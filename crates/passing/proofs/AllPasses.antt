@@ -133,7 +133,8 @@ module _
         rw (state-passed g, marks-passed g) (sym last ∙ i .leads g)
 
     pub goes :
-        done ≡ false → Whole (length given₀ / 2) flags′ fields′ tally′ → length given′ ≡ length given₀ → length marks′ ≡ length marks₀ →
+        done ≡ false → Whole (length given₀ / 2) flags′ fields′ tally′ →
+        length given′ ≡ length given₀ → length marks′ ≡ length marks₀ →
         Among book order counters₀ flags₀ fields₀ given₀ marks₀ tally₀ counters′ flags′ fields′ given′ marks′ (unmoved tally′)
         (not (eqb (tally′ .moved) 1)) (passes + 1)
     goes d whole givenLong marksLong =

@@ -38,7 +38,8 @@ routinesIn flags fields = listBelow mostRoutines (routineIn flags fields)
 
 -- routine r changes, and no other
 pub changed :
-    (f g : ℕ → Routine) (change : Routine → Routine) (r : ℕ) → r < mostRoutines → ((i : ℕ) → i ≢ r → g i ≡ f i) → g r ≡ change (f r) →
+    (f g : ℕ → Routine) (change : Routine → Routine) (r : ℕ) →
+    r < mostRoutines → ((i : ℕ) → i ≢ r → g i ≡ f i) → g r ≡ change (f r) →
     listBelow mostRoutines g ≡ set (listBelow mostRoutines f) r (change (getD (listBelow mostRoutines f) r blank))
 changed f g change r h others here = rw (below-read mostRoutines f r blank h, ← here) (below-set mostRoutines f g r others)
 

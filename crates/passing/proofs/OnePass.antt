@@ -84,13 +84,15 @@ module _
 
   -- behind that turn
   pub goes-on :
-      (t : Turn) (counters′ : List ℤ) (flags′ : List Bool) (fields′ : List ℕ) (given′ marks′ : List ℤ) (tally′ : Tally) (continued′ : ℕ) →
+      (t : Turn) (counters′ : List ℤ) (flags′ : List Bool) (fields′ : List ℕ) (given′ marks′ : List ℤ) (tally′ : Tally)
+      (continued′ : ℕ) →
       ((g : Game) →
       turned (stateOf g counters′ flags′ fields′ given′ tally′ eoi) (marksOf marks′ (tally′ .marks)) t
       ≡ turnedBy (turn book r (held g)) (marksOf marks (tally .marks))) →
       Whole (length given₀ / 2) flags′ fields′ tally′ → length given′ ≡ length given₀ → length marks′ ≡ length marks₀ →
       eqb continued′ 0 ≡ (eqb continued 0 && isDone t) →
-      Between book eoi counters₀ flags₀ fields₀ given₀ marks₀ order tally₀ counters′ flags′ fields′ given′ marks′ tally′ continued′ (at + 1)
+      Between book eoi counters₀ flags₀ fields₀ given₀ marks₀ order tally₀
+      counters′ flags′ fields′ given′ marks′ tally′ continued′ (at + 1)
   unfolding allDone
   goes-on t counters′ flags′ fields′ given′ marks′ tally′ continued′ took whole givenLong marksLong done =
       record {
