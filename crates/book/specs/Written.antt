@@ -1,27 +1,15 @@
 -- Books written down as bytes, for examples: steps by document 01's table of ops, routines by their steps.
-use Prim.Native.Nat.{ℕ, _+_, _*_, _-_, _/_, _%_}
+use Prim.Native.Nat.{ℕ, _+_, _*_}
 use mathlib.Core.List.{List, [], _∷_, _++_, map, foldr}
 use lib.ListN.{length}
-use lib.IntN.{ℤ, pos, negsuc}
-use Rattle.numbers.specs.Numbers.{halfLimit, wordLimit}
+use lib.IntN.{ℤ, pos}
+use Rattle.numbers.specs.Bytes.{halfBytes, wordBytes, complement}
 use Rattle.kinds.specs.Ops.{opMark, opSet, opAdd, opTake, opSignal, opSignalNumber, opRest, opRestFor, opWait, opWaitFor, opJoin}
 use Rattle.kinds.specs.Ops.{opJoinFor, opRead, opStart, opStop, opSuspend, opResume, opIf, opElse, opWhile, opEnd}
 
--- "All numbers are little-endian; 16 bits unless said."
-abbrev pub half : ℕ → List ℕ
-half n = n % 256 ∷ n / 256 ∷ []
-
--- "32 bits, two's complement"
-abbrev pub bits : ℤ → ℕ
-bits (pos n) = n
-bits (negsuc n) = wordLimit - (n + 1)
-
-abbrev pub word : ℤ → List ℕ
-word n = half (bits n % halfLimit) ++ half (bits n / halfLimit)
-
 -- "steps of 8 bytes: op (8 bits), a (8 bits), b (16 bits), n (32 bits, two's complement)"
 abbrev pub step : ℕ → ℕ → ℕ → ℤ → List ℕ
-step op a b n = op ∷ a ∷ half b ++ word n
+step op a b n = op ∷ a ∷ halfBytes b ++ wordBytes (complement n)
 
 -- "b relation (0 equal, 1 less, 2 greater)"
 abbrev pub equal : ℕ
@@ -103,12 +91,12 @@ joined l = foldr _++_ [] l
 -- "Header of 12 bytes: routines R .., steps S .., signals E .., counters C .., offset of the directory (12), offset of the steps (12 +
 -- 4R)."
 abbrev pub header : ℕ → ℕ → ℕ → ℕ → List ℕ
-header R S E C = half R ++ half S ++ half E ++ half C ++ half 12 ++ half (12 + 4 * R)
+header R S E C = halfBytes R ++ halfBytes S ++ halfBytes E ++ halfBytes C ++ halfBytes 12 ++ halfBytes (12 + 4 * R)
 
 -- "Directory: R entries, first step and step count": the entries of routines with these step counts, from step p on
 unfoldable pub directory : ℕ → List ℕ → List ℕ
 directory p [] = []
-directory p (n ∷ ns) = half p ++ half n ++ directory (p + n) ns
+directory p (n ∷ ns) = halfBytes p ++ halfBytes n ++ directory (p + n) ns
 
 -- a book of E signals, C counters and these routines, each a list of steps
 abbrev pub book : ℕ → ℕ → List (List (List ℕ)) → List ℕ

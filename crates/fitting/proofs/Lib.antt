@@ -5,5 +5,6 @@ pub mod Ranges
 pub mod Flagged
 pub mod Routines
 pub mod Decides
+pub mod Checks
 pub mod Room
 pub mod Outcomes

@@ -1,5 +1,5 @@
--- Counting: a test at each, or at one, of the first n numbers, how many of them pass it, and a sum over them; how many items of a list pass
--- a test, what holds of each, or of some, and a sum over them.
+-- Counting: a test at each, or at one, of the first n numbers, how many of them pass it, the values of a function at them, and a sum over
+-- them; how many items of a list pass a test, what holds of each, or of some, and a sum over them.
 use Prim.Native.Nat.{ℕ, zero, suc, _+_}
 use mathlib.Core.Path.{_≡_}
 use mathlib.Core.Bool.{Bool, true, false, _&&_, _||_}
@@ -19,6 +19,11 @@ allFrom m n test = allBelow n (λ i. ltb i m || test i)
 unfoldable pub anyBelow : ℕ → (ℕ → Bool) → Bool
 anyBelow zero test = false
 anyBelow (suc n) test = anyBelow n test || test n
+
+-- the first n values of a function
+unfoldable pub listBelow : {A : Type 0} → ℕ → (ℕ → A) → List A
+listBelow zero f = []
+listBelow (suc n) f = f 0 ∷ listBelow n (λ i. f (suc i))
 
 unfoldable pub sumBelow : (ℕ → ℕ) → ℕ → ℕ
 sumBelow f zero = 0

@@ -12,7 +12,7 @@ use lib.Dec.{lit≤, eqb}
 use lib.IntN.{ℤ}
 use lib.ListN.{length, getD, length-map, List·getD-eq-default, List·getD-map}
 use lib.Seq.{ext-getD}
-use Rattle.numbers.specs.Counting.{Among}
+use Rattle.numbers.specs.Counting.{Among, listBelow}
 use Rattle.numbers.proofs.Tests.{by-flag, clash}
 use Rattle.layout.specs.Layout.{mostRoutines, mostSignals, routinesOf}
 use Rattle.kinds.specs.declared.Counts.{Counts}
@@ -29,9 +29,9 @@ use Rattle.round.proofs.Among.{among-or, among-kept}
 use Rattle.round.proofs.Actions.{each-keeps, each-length, each-other, each-given}
 use Rattle.round.proofs.Actions.{startsOf, joinedOf, first, stops, stays, leaving, staying, halted, last}
 use Rattle.tables.specs.Tables.{fieldCount, endsRow, stopsRow, suspendsRow, resumesRow, suspendedRow, begunRow, presentRow}
-use Rattle.tables.specs.Tables.{stagesRow, placesRow, leftsRow, startingRow, rowAt, lastRow, putIn, listBelow, routineIn, stateOf}
+use Rattle.tables.specs.Tables.{stagesRow, placesRow, leftsRow, startingRow, rowAt, lastRow, putIn, routineIn, stateOf}
 use Rattle.tables.proofs.Rows.{row-length, row-other, last-other, put-length}
-use Rattle.tables.proofs.Lists.{below-length, below-read}
+use Rattle.numbers.proofs.Lists.{below-length, below-read}
 use Rattle.opening.specs.Actions.{continued, withSignals, settledStage, staysAt, settled, openedFields, openedOrder}
 use Rattle.opening.specs.Games.{noTally, Opened}
 use Rattle.opening.proofs.Taking.{Taken}

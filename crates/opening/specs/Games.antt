@@ -18,7 +18,8 @@ use Rattle.fitting.specs.Fits.{Fits}
 use Rattle.round.specs.Actions.{atStart}
 use Rattle.tables.specs.declared.Tally.{Tally}
 use Rattle.tables.specs.Tables.{flagCount, fieldCount, stagesRow, placesRow, startingRow}
-use Rattle.tables.specs.Tables.{rowAt, lastRow, listBelow, routineIn, startLine, stateOf}
+use Rattle.numbers.specs.Counting.{listBelow}
+use Rattle.tables.specs.Tables.{rowAt, lastRow, routineIn, startLine, stateOf}
 
 -- nothing is counted yet
 abbrev pub noTally : Tally

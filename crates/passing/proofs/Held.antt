@@ -27,9 +27,11 @@ use Rattle.round.specs.Ticks.{effectOn}
 use Rattle.tables.specs.declared.Tally.{Tally}
 use Rattle.tables.specs.Tables.{presentRow, endsRow, stopsRow, suspendsRow, resumesRow, suspendedRow, begunRow, flagCount}
 use Rattle.tables.specs.Tables.{stagesRow, placesRow, leftsRow, startingRow, putIn}
-use Rattle.tables.specs.Tables.{listBelow, routineIn, startLine, pairsOf, pairPut, stateOf, Whole}
+use Rattle.numbers.specs.Counting.{listBelow}
+use Rattle.tables.specs.Tables.{routineIn, startLine, pairsOf, pairPut, stateOf, Whole}
 use Rattle.tables.proofs.Rows.{row-other, row-last, last-put, last-other, put-length, read-put}
-use Rattle.tables.proofs.Lists.{below-read, below-same, below-set, pairs-length, pairs-set}
+use Rattle.numbers.proofs.Lists.{below-read, values-same, below-set}
+use Rattle.tables.proofs.Pairs.{pairs-length, pairs-set}
 use Rattle.passing.specs.Effects.{adds, isStarting, startedIn, startCount}
 
 -- the routines as the tables have them
@@ -72,13 +74,13 @@ module _ (flags : List Bool) (fields : List ℕ) where
   present-routines : (e : ℕ) (v : Bool) → routinesIn (set flags (presentRow + e) v) fields ≡ routinesIn flags fields
   present-routines e v =
       let o = row-last presentRow flags e v in
-      below-same mostRoutines _ _
+      values-same mostRoutines _ _
       (λ i. rw (o stopsRow (lit≤ tt), o suspendsRow (lit≤ tt), o resumesRow (lit≤ tt), o suspendedRow (lit≤ tt), o begunRow (lit≤ tt)))
 
   starting-routines : (i v : ℕ) → routinesIn flags (set fields (startingRow + i) v) ≡ routinesIn flags fields
   starting-routines i v =
       let o = row-last startingRow fields i v in
-      below-same mostRoutines _ _ (λ r. rw (o stagesRow (lit≤ tt), o placesRow (lit≤ tt), o leftsRow (lit≤ tt)))
+      values-same mostRoutines _ _ (λ r. rw (o stagesRow (lit≤ tt), o placesRow (lit≤ tt), o leftsRow (lit≤ tt)))
 
 -- the tables stay as long as their types say, with what is counted in its room
 pub still-whole :

@@ -24,7 +24,7 @@ use Rattle.tables.specs.Tables.{presentRow, endsRow, stopsRow, suspendsRow, res
 use Rattle.tables.specs.Tables.{stagesRow, placesRow, leftsRow, startingRow, fieldCount, rowAt, lastRow, putIn}
 use Rattle.tables.specs.Tables.{stateOf}
 use Rattle.tables.proofs.Rows.{row-put, row-other, last-other, read-put, put-length}
-use Rattle.tables.proofs.Lists.{below-same}
+use Rattle.numbers.proofs.Lists.{values-same}
 use Rattle.passing.proofs.Held.{routinesIn, changed, moving}
 
 -- a routine is left by a turn that ends so, at a position
@@ -96,7 +96,7 @@ end-routines :
     (flags : List Bool) (fields : List ℕ) (r : ℕ) (v : Bool) → routinesIn (putIn endsRow r v flags) fields ≡ routinesIn flags fields
 end-routines flags fields r v =
     let o = row-other endsRow r v flags in
-    below-same mostRoutines _ _
+    values-same mostRoutines _ _
     (λ i.
     rw (
       o stopsRow (inr (lit≤ tt)),

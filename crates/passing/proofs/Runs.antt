@@ -23,7 +23,7 @@ use Rattle.round.proofs.Acts.{Right, nothing, mark, put, add, give, giveNumber,
 use Rattle.round.proofs.Sorting.{sorted}
 use Rattle.tables.specs.declared.Tally.{Tally}
 use Rattle.tables.specs.Tables.{stateOf, Whole}
-use Rattle.tables.proofs.Lists.{pairs-length}
+use Rattle.tables.proofs.Pairs.{pairs-length}
 use Rattle.ticking.specs.Acts.{actAt}
 use Rattle.ticking.proofs.StepMarks.{act-same}
 use Rattle.passing.specs.Effects.{HasRoom, FitsTables, Marks, marksOf, markedBy}

@@ -18,7 +18,7 @@ use Rattle.round.specs.Rounds.{mostTicks, withEnd, behindTurn, ticksOf, turn}
 use Rattle.round.specs.Answers.{marksIn}
 use Rattle.tables.specs.declared.Tally.{Tally}
 use Rattle.tables.specs.Tables.{suspendedRow, stagesRow, rowAt, routineIn, stateOf}
-use Rattle.tables.proofs.Lists.{below-read}
+use Rattle.numbers.proofs.Lists.{below-read}
 use Rattle.passing.specs.Effects.{Marks, marksPut}
 use Rattle.passing.specs.Turns.{Run, runOf, positionIn, Roomy, Ready, isPassedOver, Behind, turned, turnedBy}
 use Rattle.passing.proofs.TurnMarks.{heldBy, run-ticks}

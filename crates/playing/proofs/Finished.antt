@@ -26,7 +26,7 @@ use Rattle.round.proofs.After.{round-fits}
 use Rattle.round.proofs.Once.{completed-once}
 use Rattle.tables.specs.declared.Tally.{Tally}
 use Rattle.tables.specs.Tables.{routineIn, stateOf}
-use Rattle.tables.proofs.Lists.{below-read}
+use Rattle.numbers.proofs.Lists.{below-read}
 use Rattle.passing.specs.Effects.{Marks}
 use Rattle.opening.specs.Games.{HoldsGame, gameOf}
 use Rattle.opening.proofs.Opened.{all-routines, few-routines}

@@ -17,7 +17,7 @@ use Rattle.verdicts.proofs.First.{orElse-told}
 use Rattle.book.proofs.Reasons.{book-reason-only}
 use Rattle.game.specs.declared.Game.{Game}
 use Rattle.fitting.specs.Fits.{Fits}
-use Rattle.orders.proofs.Reasons.{unfit-told, past-fit, by-fit}
+use Rattle.fitting.proofs.Checks.{unfit-told, past-fit, by-fit}
 use Rattle.round.specs.Rounds.{round}
 use Rattle.round.specs.Answers.{spaceFor, mostNumbers, roundVerdict, Answer, turnedDown, playedOut, answer}
 use Rattle.round.specs.claims.Reasons.{numbersGiven, RoundReason}

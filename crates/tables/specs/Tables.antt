@@ -1,5 +1,5 @@
 -- The tables of a round, and the state that they hold.
-use Prim.Native.Nat.{ℕ, zero, suc, _+_, _*_, _/_, _≤_}
+use Prim.Native.Nat.{ℕ, _+_, _*_, _/_, _≤_}
 use mathlib.Core.Path.{_≡_}
 use mathlib.Core.Bool.{Bool, false}
 use mathlib.Core.List.{List, [], _∷_}
@@ -8,6 +8,7 @@ use lib.ListN.{length, getD, set, take, drop}
 use lib.IntN.{ℤ, pos, negsuc}
 use Rattle.numbers.specs.Choice.{if_then_else_}
 use Rattle.numbers.specs.Numbers.{wordLimit}
+use Rattle.numbers.specs.Counting.{listBelow}
 use Rattle.layout.specs.Layout.{mostRoutines, mostSignals}
 use Rattle.lines.specs.declared.Line.{Line}
 use Rattle.lines.specs.Lines.{mostEntries}
@@ -69,11 +70,6 @@ lastRow k l = drop k l
 -- a store for routine r in the row that begins at k; a number that no routine has takes nothing
 unfoldable pub putIn : {A : Type 0} → ℕ → ℕ → A → List A → List A
 putIn k r v l = if ltb r mostRoutines then set l (k + r) v else l
-
--- the first n values of a function
-unfoldable pub listBelow : {A : Type 0} → ℕ → (ℕ → A) → List A
-listBelow zero f = []
-listBelow (suc n) f = f 0 ∷ listBelow n (λ i. f (suc i))
 
 -- routine r as the tables have it
 abbrev pub routineIn : List Bool → List ℕ → ℕ → Routine

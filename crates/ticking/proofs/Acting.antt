@@ -11,7 +11,7 @@ use Rattle.game.specs.declared.Game.{Game}
 use Rattle.game.specs.Game.{blank}
 use Rattle.tables.specs.declared.Tally.{Tally}
 use Rattle.tables.specs.Tables.{stagesRow, endsRow, rowAt, routineIn, stateOf}
-use Rattle.tables.proofs.Lists.{below-read}
+use Rattle.numbers.proofs.Lists.{below-read}
 use Rattle.round.specs.declared.Act.{Act}
 use Rattle.round.specs.State.{Event, hasEnded, isEndThere}
 use Rattle.round.specs.Ticks.{Tick, tickWith}

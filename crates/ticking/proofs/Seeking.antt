@@ -18,7 +18,7 @@ use Rattle.numbers.specs.Numbers.{wordLimit}
 use Rattle.numbers.proofs.Tests.{by-flag}
 use Rattle.layout.specs.Layout.{mostSignals}
 use Rattle.tables.specs.Tables.{firstOfPair, pairsOf}
-use Rattle.tables.proofs.Lists.{pairs-length}
+use Rattle.tables.proofs.Pairs.{pairs-length}
 use Rattle.round.specs.State.{numbersWith}
 
 -- two order tests say whether a signal is e

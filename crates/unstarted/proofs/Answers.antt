@@ -5,6 +5,7 @@ use mathlib.Core.List.{List}
 use native.Mathlib.Omega.{arith}
 use borrow.Author.Tests.{le-leb, lt-leb, ne-eqb}
 use lib.ListN.{length}
+use Rattle.numbers.specs.Buffers.{withFront}
 use Rattle.verdicts.specs.declared.Verdict.{Verdict}
 use Rattle.verdicts.specs.Verdicts.{accepted, refused}
 use Rattle.verdicts.proofs.First.{orElse-refused, orElse-past}
@@ -12,7 +13,7 @@ use Rattle.layout.specs.Layout.{routinesOf}
 use Rattle.book.specs.Book.{bookVerdict}
 use Rattle.book.specs.Accepted.{Accepted}
 use Rattle.book.proofs.Reasons.{accepted-exactly}
-use Rattle.unstarted.specs.Unstarted.{namesOf, withNames, shortNames, namesVerdict, namesFor, names}
+use Rattle.unstarted.specs.Unstarted.{namesOf, shortNames, namesVerdict, namesFor, names}
 
 module _ (book buffer : List ℕ) where
   module _ (v : Verdict) where
@@ -39,6 +40,6 @@ module _ (book buffer : List ℕ) where
 
   pub named :
       Accepted book → routinesOf book ≤ length buffer →
-      namesFor accepted (length (namesOf book)) (withNames (namesOf book) buffer) ≡ names book buffer
+      namesFor accepted (length (namesOf book)) (withFront (namesOf book) buffer) ≡ names book buffer
   unfolding names namesVerdict
   named a h = rw (orElse-past (bookVerdict book) _ (accepted-exactly book .1 a), le-leb _ _ h)

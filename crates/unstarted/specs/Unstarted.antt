@@ -2,11 +2,12 @@
 -- steps once.
 use Prim.Native.Nat.{ℕ, zero, suc, _+_}
 use mathlib.Core.Bool.{Bool, true, false, _||_, not}
-use mathlib.Core.List.{List, [], _∷_, _++_}
+use mathlib.Core.List.{List, [], _∷_}
 use lib.Dec.{eqb, leb, ltb}
-use lib.ListN.{length, getD, set, drop, replicate}
+use lib.ListN.{length, getD, set, replicate}
 use Rattle.numbers.specs.Choice.{if_then_else_}
 use Rattle.numbers.specs.Numbers.{byteLimit}
+use Rattle.numbers.specs.Buffers.{withFront}
 use Rattle.kinds.specs.Ops.{opStart}
 use Rattle.kinds.specs.Steps.{opAt, fieldA, stepsIn}
 use Rattle.verdicts.specs.declared.Verdict.{Verdict}
@@ -75,10 +76,6 @@ noFlags = replicate byteLimit false
 abbrev pub namesOf : List ℕ → List ℕ
 namesOf book = notFound (foundIn book noFlags .flags) (routinesOf book) 0
 
--- a buffer with these names at its front
-abbrev pub withNames : List ℕ → List ℕ → List ℕ
-withNames named buffer = named ++ drop (length named) buffer
-
 -- 12. "where the buffer is shorter than R"
 abbrev pub shortNames : ℕ
 shortNames = 12
@@ -102,4 +99,4 @@ unfoldable pub names : List ℕ → List ℕ → NamesAnswer
 names book buffer =
     let v = namesVerdict book buffer in
     let named = namesOf book in
-    if eqb (v .number) 0 then namesFor v (length named) (withNames named buffer) else namesFor v 0 buffer
+    if eqb (v .number) 0 then namesFor v (length named) (withFront named buffer) else namesFor v 0 buffer

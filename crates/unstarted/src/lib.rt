@@ -10,6 +10,7 @@ use verdicts::verdict_of;
 ghost use mathlib.Core.Path.{_≡_};
 ghost use Prim.Native.Nat.{_≤_};
 ghost use lib.ListN.{length};
+ghost use Rattle.numbers.specs.Buffers.{withFront};
 ghost use Rattle.kinds.specs.Steps.{stepsIn};
 ghost use Rattle.layout.specs.Layout.{mostRoutines};
 ghost use Rattle.unstarted.specs.Unstarted as definition;
@@ -110,7 +111,7 @@ fn find_all(book: &[u8], flags: &mut [bool; BYTE_LIMIT])
 fn write_names(all: usize, flags: &[bool; BYTE_LIMIT], names: &mut [u8]) -> usize
     requires { ⌜ (all ≤ mostRoutines) × (all ≤ length (now names)) ⌝ }
     ensures { λ r. ⌜ r ≡ length (definition.notFound (now (flags .entry)) all 0) ⌝ }
-    ensures { λ r. ⌜ now (names .exit) ≡ definition.withNames (definition.notFound (now (flags .entry)) all 0) (now (names .entry)) ⌝ }
+    ensures { λ r. ⌜ now (names .exit) ≡ withFront (definition.notFound (now (flags .entry)) all 0) (now (names .entry)) ⌝ }
 {
     let mut count: usize = 0;
     let mut routine: usize = 0;

@@ -8,8 +8,9 @@ use lib.ListN.{length}
 use Rattle.layout.specs.Layout.{mostRoutines}
 use Rattle.game.specs.Game.{blank}
 use Rattle.fitting.proofs.Sizes.{length-mapped}
-use Rattle.tables.specs.Tables.{listBelow, routineIn}
-use Rattle.tables.proofs.Lists.{below-length, below-read}
+use Rattle.numbers.specs.Counting.{listBelow}
+use Rattle.tables.specs.Tables.{routineIn}
+use Rattle.numbers.proofs.Lists.{below-length, below-read}
 use Rattle.opening.proofs.Copying.{copied, copy-on, copy-all}
 use Rattle.opening.proofs.finish.Statement.{statement}
 use Rattle.opening.proofs.finish.Tie as tie

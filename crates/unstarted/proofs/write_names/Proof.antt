@@ -1,38 +1,21 @@
 -- `unstarted::write_names` meets its contract. The invariant: the names from `routine` on, written behind those in the buffer, give the
 -- buffer that all of them give at the start, and so many in all.
-use Prim.Native.Nat.{ℕ, suc, _+_, _-_, _≤_, _<_}
+use Prim.Native.Nat.{ℕ, _+_, _-_, _≤_, _<_}
 use mathlib.Core.Path.{_≡_, refl, sym, _∙_}
 use mathlib.Core.Bool.{Bool, true, false}
-use mathlib.Core.List.{List, [], _∷_, _++_, append-assoc}
+use mathlib.Core.List.{List, [], _∷_}
 use mathlib.Core.Logic.{⊎-elim}
-use native.Mathlib.Numerals.{add-one}
 use native.Mathlib.Nat.{sub-zero, sub-eq-zero-of-le}
 use native.Mathlib.Omega.{arith}
-use lib.ListN.{length, set, take, drop, length-set, take-append-drop}
-use lib.Seq.{take-suc-set, drop-set-lt, drop-drop}
+use lib.ListN.{length, length-set, take-append-drop}
 use borrow.Author.Needs.{needs}
 use borrow.Author.Tests.{not-true, not-false}
+use Rattle.numbers.specs.Buffers.{withFront, withPart}
 use Rattle.numbers.proofs.Left.{more-left}
-use Rattle.unstarted.specs.Unstarted.{isFound, notFound, withNames}
+use Rattle.numbers.proofs.Buffers.{part-one}
+use Rattle.unstarted.specs.Unstarted.{isFound, notFound}
 use Rattle.unstarted.proofs.write_names.Statement.{statement}
 use Rattle.unstarted.proofs.write_names.Tie as tie
-
--- a buffer with these names behind its first `count` bytes
-abbrev behind : ℕ → List ℕ → List ℕ → List ℕ
-behind count names buffer = take count buffer ++ withNames names (drop count buffer)
-
--- the first of them is written
-behind-one :
-    (r count : ℕ) (names buffer : List ℕ) → count < length buffer →
-    behind (count + 1) names (set buffer count r) ≡ behind count (r ∷ names) buffer
-behind-one r count names buffer h =
-    let n = length names in
-    let cut : suc count + n ≡ count + suc n = omega arith in
-    let below : count < suc count = omega arith in
-    let rest : drop n (drop (suc count) buffer) ≡ drop (suc n) (drop count buffer) =
-    rw (drop-drop n (suc count) buffer, drop-drop (suc n) count buffer, cut)
-    in
-    rw (add-one, take-suc-set buffer count r h, drop-set-lt (suc count) buffer count r below, rest, append-assoc)
 
 -- the names from routine r on, and from the one behind it
 module _ (flags : List Bool) (all r : ℕ) where
@@ -56,7 +39,7 @@ module _ (flags : List Bool) (all r : ℕ) where
 
 abbrev Inv-loop : tie.InvT-loop
 Inv-loop all flags buffer₀ count₀ routine₀ buffer count routine =
-    (behind count (left flags all routine) buffer ≡ withNames (notFound flags all 0) buffer₀)
+    (withPart count (left flags all routine) buffer ≡ withFront (notFound flags all 0) buffer₀)
     × (count + length (left flags all routine) ≡ length (notFound flags all 0))
     × (count ≤ routine)
     × (routine ≤ all)
@@ -80,7 +63,7 @@ loop-again c =
     let here = named (args .flags .now) (args .all) r more (not-true _ (w .0 .taken)) in
     let room : l .loop .count < length (l .loop .names) = omega (arith, inv .2, inv .4, more, l .before .pre .1) in
     rw (w .1, w .2) (
-      behind-one r (l .loop .count) (later (args .flags .now) (args .all) r) (l .loop .names) room ∙ (rw here at (inv .0)),
+      part-one r (l .loop .count) (later (args .flags .now) (args .all) r) (l .loop .names) room ∙ (rw here at (inv .0)),
       omega (arith, rw here at (inv .1)),
       omega (arith, inv .2),
       omega (arith, more),
