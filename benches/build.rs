@@ -3,7 +3,9 @@
 use std::path::Path;
 
 /// The crates with the exported calls. Each call has an archive of its own: a function with two callers would not be compiled into either.
-const CRATES: [&str; 6] = ["book_c", "fit_c", "setup_c", "order_c", "play_c", "round_c"];
+const CRATES: [&str; 8] = [
+    "book_c", "fit_c", "setup_c", "order_c", "store_c", "load_c", "play_c", "round_c",
+];
 
 /// Has the linker put the functions in another order for each number in the variable PLACEMENT, since where code lies moves its times.
 fn place() {

@@ -4,7 +4,7 @@
 set -e
 cd "$(dirname "$0")/.."
 mkdir -p target
-for crate in book_c fit_c setup_c order_c play_c round_c; do
+for crate in book_c fit_c setup_c order_c store_c load_c play_c round_c; do
     rt staticlib "$crate" >target/staticlib.log 2>&1 || { cat target/staticlib.log; exit 1; }
 done
 for placement in 1 2 3 4 5; do

@@ -4,8 +4,8 @@
 usage: game_lines.py PLAYS.IN PLAYS.OUT STDIN STDOUT
 
 The lines log and facts are left out, for they ask how a round went and not for its answer. After a poke with a value that the field's type
-cannot hold so is every dump, which may show it, until that field is overwritten or the game set up anew. All others stay as they are, with
-their answers.
+cannot hold so is every dump, which may show it, until that field is overwritten, or the game set up or read anew. All others stay as they
+are, with their answers.
 """
 import sys
 
@@ -26,7 +26,7 @@ def answers(commands, lines):
     for command in commands:
         word = command.split()[0]
         end = at
-        if word in ("read", "show", "setup", "order", "unstarted", "log", "facts"):
+        if word in ("read", "show", "setup", "order", "unstarted", "store", "load", "log", "facts"):
             end += 1
         elif word == "round":
             end += 1 + int(lines[at].split()[4])
@@ -50,7 +50,7 @@ def select(steps):
                 unheld.discard(field)
             else:
                 unheld.add(field)
-        if told == ["setup 0 0"]:
+        if told in (["setup 0 0"], ["load 0 0"]):
             unheld.clear()
         if word not in ("log", "facts") and not (word == "dump" and unheld):
             yield command, told

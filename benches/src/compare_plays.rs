@@ -1,5 +1,6 @@
-//! Holds the library's set-ups, orders and rounds to the plain ones on random plays.
+//! Holds the library's set-ups, orders, rounds and stored games to the plain ones on random plays.
 
+use crate::compare_stores::Stores;
 use crate::game::{Game, Played, MOST_STEPS};
 use crate::random::Random;
 use crate::random_books::{damage, random_book};
@@ -186,10 +187,11 @@ struct Tallies {
     set_ups: Tally,
     orders: Tally,
     rounds: Tally,
+    stores: Stores,
 }
 
 /// A play of a few rounds from set-up on, with orders. Where a call is turned down or was lent another book, the play goes on from the game
-/// before. What a round is lent is lent to set-up too, and the play does not go on from that.
+/// before. What a round is lent is lent to set-up and to storing too, and the play does not go on from that.
 fn random_play(tallies: &mut Tallies, play: usize) {
     let name = format!("play {play}");
     let mut random = Random(play as u64);
@@ -207,6 +209,7 @@ fn random_play(tallies: &mut Tallies, play: usize) {
         }
         let case = lent(&mut random, &name, &book, marks, game);
         tallies.set_ups.set_up(&case);
+        tallies.stores.compare(&name, &case.book, case.game);
         let played = tallies.rounds.round(&case);
         if played.verdict.is_accepted() && case.book == book {
             game = played.game;
@@ -235,6 +238,7 @@ pub fn compare_plays() -> bool {
         set_ups: Tally::new("set-ups"),
         orders: Tally::new("orders"),
         rounds: Tally::new("rounds"),
+        stores: Stores::new(),
     };
     for play in 0..RANDOM_PLAYS {
         random_play(&mut tallies, play);
@@ -245,13 +249,15 @@ pub fn compare_plays() -> bool {
         set_ups,
         orders,
         rounds,
+        stores,
     } = tallies;
     let set_ups_right = set_ups.is_right(&[0, 1, 2, 3, 4, 5, 6, 7]);
     let orders_right = orders.is_right(&[0, 1, 2, 3, 4, 5, 6, 7, 8, 9]);
     let rounds_right = rounds.is_right(&[0, 1, 2, 3, 4, 5, 6, 7, 9, 10]);
+    let stores_right = stores.is_right();
     println!(
         "accepted: {} rounds with {} passes and {} marks",
         rounds.numbers[0], rounds.passes, rounds.marks
     );
-    set_ups_right && orders_right && rounds_right
+    set_ups_right && orders_right && rounds_right && stores_right
 }

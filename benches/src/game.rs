@@ -103,12 +103,20 @@ impl Game {
     }
 }
 
-/// What set-up and an order answer: after a refusal the game is the lent one.
+/// What set-up, an order and reading a stored game answer: after a refusal the game is the lent one.
 #[repr(C)]
 #[derive(Clone, Copy, PartialEq, Eq, Debug)]
 pub struct Outcome {
     pub verdict: Verdict,
     pub game: Game,
+}
+
+/// What storing a game answers: the length is 0 after a refusal.
+#[repr(C)]
+#[derive(Clone, Copy, PartialEq, Eq, Debug)]
+pub struct Stored {
+    pub verdict: Verdict,
+    pub length: usize,
 }
 
 /// What playing a round answers: after a refusal the game is the lent one, and passes and marks are 0.

@@ -1,6 +1,6 @@
 //! The library's calls.
 
-use crate::game::{Game, Outcome, Played};
+use crate::game::{Game, Outcome, Played, Stored};
 use crate::verdict::{UnstartedNames, Verdict};
 
 extern "C" {
@@ -23,6 +23,22 @@ extern "C" {
         game: Game,
         kind: u32,
         number: u32,
+    ) -> Outcome;
+
+    fn zulqenat_store(
+        book: *const u8,
+        length: usize,
+        game: Game,
+        out: *mut u8,
+        room: usize,
+    ) -> Stored;
+
+    fn zulqenat_load(
+        book: *const u8,
+        length: usize,
+        bytes: *const u8,
+        count: usize,
+        game: Game,
     ) -> Outcome;
 
     fn zulqenat_play(
@@ -73,6 +89,20 @@ pub fn set_up(book: &[u8], game: Game) -> Outcome {
 pub fn order(book: &[u8], game: Game, kind: u32, number: u32) -> Outcome {
     // SAFETY: the pointer and the length are those of a slice, which the call only reads and does not keep.
     unsafe { zulqenat_order(book.as_ptr(), book.len(), game, kind, number) }
+}
+
+/// Stores a game.
+#[inline(always)]
+pub fn store(book: &[u8], game: Game, out: &mut [u8]) -> Stored {
+    // SAFETY: the pointers and lengths are those of two slices; the call reads the first, writes the second and keeps neither.
+    unsafe { zulqenat_store(book.as_ptr(), book.len(), game, out.as_mut_ptr(), out.len()) }
+}
+
+/// Replaces a lent game by a stored one.
+#[inline(always)]
+pub fn load(book: &[u8], bytes: &[u8], game: Game) -> Outcome {
+    // SAFETY: the pointers and lengths are those of two slices, which the call only reads and does not keep.
+    unsafe { zulqenat_load(book.as_ptr(), book.len(), bytes.as_ptr(), bytes.len(), game) }
 }
 
 /// Plays a round, after the checks.

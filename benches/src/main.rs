@@ -3,6 +3,7 @@
 mod books;
 mod compare_books;
 mod compare_plays;
+mod compare_stores;
 mod game;
 mod library;
 mod plain;

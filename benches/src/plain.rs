@@ -5,8 +5,9 @@ mod orders;
 mod reading;
 mod round;
 mod starts;
+mod stored;
 
-use crate::game::{Counts, Game, Outcome, Played};
+use crate::game::{Counts, Game, Outcome, Played, Stored};
 use crate::steps::{Step, MARK};
 use crate::verdict::{UnstartedNames, Verdict};
 pub use fitting::timed_count;
@@ -94,7 +95,7 @@ pub fn set_up(book: &[u8], game: Game) -> Outcome {
 }
 
 /// A refusal without a place.
-fn refuse(number: u32) -> Check {
+fn refuse<T>(number: u32) -> Result<T, Verdict> {
     Err(Verdict { number, place: 0 })
 }
 
@@ -121,6 +122,55 @@ pub fn order(book: &[u8], mut game: Game, kind: u32, number: u32) -> Outcome {
         Err(verdict) => verdict,
     };
     Outcome { verdict, game }
+}
+
+/// The checks of storing, 1 to 7, 9 and 14.
+fn check_store(book: &[u8], game: &Game, room: usize) -> Check {
+    reading::check(book)?;
+    if !fitting::fits(book, game) {
+        return refuse(9);
+    }
+    if room < stored::stored_length(game) {
+        return refuse(14);
+    }
+    Ok(())
+}
+
+/// Stores a game.
+#[inline(never)]
+pub fn store(book: &[u8], game: Game, out: &mut [u8]) -> Stored {
+    let (verdict, length) = match check_store(book, &game, out.len()) {
+        Ok(()) => {
+            stored::write(&game, out);
+            (Verdict::ACCEPTED, stored::stored_length(&game))
+        }
+        Err(verdict) => (verdict, 0),
+    };
+    Stored { verdict, length }
+}
+
+/// The game that bytes stand for, after the checks of reading it, 1 to 7, 13 and 9.
+fn check_load(book: &[u8], bytes: &[u8]) -> Result<Game, Verdict> {
+    reading::check(book)?;
+    let Some(game) = stored::read(bytes) else {
+        return refuse(13);
+    };
+    if !fitting::fits(book, &game) {
+        return refuse(9);
+    }
+    Ok(game)
+}
+
+/// Replaces a lent game by a stored one.
+#[inline(never)]
+pub fn load(book: &[u8], bytes: &[u8], game: Game) -> Outcome {
+    match check_load(book, bytes) {
+        Ok(game) => Outcome {
+            verdict: Verdict::ACCEPTED,
+            game,
+        },
+        Err(verdict) => Outcome { verdict, game },
+    }
 }
 
 /// The checks of a round, 1 to 7, 9 and 10.

@@ -3,7 +3,7 @@
 use std::hint::black_box;
 use std::time::Instant;
 
-use crate::game::{Game, Outcome, Played, MOST_ROUTINES};
+use crate::game::{Game, Outcome, Played, Stored, MOST_ROUTINES};
 use crate::timed_books::{timed_books, TimedBook};
 use crate::{books, library, plain};
 
@@ -11,6 +11,9 @@ const BATCHES: usize = 501;
 
 /// How many nanoseconds a batch takes, about.
 const BATCH: f64 = 300_000.0;
+
+/// The room in which every game can be stored.
+const STORED_ROOM: usize = 1024;
 
 /// Nanoseconds that a piece of work takes, over one batch.
 fn batch(work: &mut impl FnMut(), repeats: usize) -> f64 {
@@ -204,6 +207,76 @@ fn time_orders(timed: &TimedBook, games: &[Game]) {
     );
 }
 
+/// The bytes that each game is stored as. Both sides have to store alike, and to read each game back.
+fn stored_all(timed: &TimedBook, games: &[Game]) -> Vec<Vec<u8>> {
+    let book = &timed.book;
+    let store = |game: &Game| {
+        let (mut by_library, mut by_plain) = ([0; STORED_ROOM], [0; STORED_ROOM]);
+        let found = library::store(book, *game, &mut by_library);
+        let expected = plain::store(book, *game, &mut by_plain);
+        assert!(
+            found == expected && by_library == by_plain && expected.verdict.is_accepted(),
+            "{}: a game is stored differently or not at all",
+            timed.name
+        );
+        let bytes = by_plain[..expected.length].to_vec();
+        for load in [library::load, plain::load] {
+            let read = load(book, &bytes, Game::set_up(game.counts));
+            assert!(
+                read.verdict.is_accepted() && read.game == *game,
+                "{}: a stored game is not read back",
+                timed.name
+            );
+        }
+        bytes
+    };
+    games.iter().map(store).collect()
+}
+
+/// Stores each game. Both sides take the game by value.
+#[inline(always)]
+fn store_all(
+    store: impl Fn(&[u8], Game, &mut [u8]) -> Stored,
+    book: &[u8],
+    games: &[Game],
+    out: &mut [u8],
+) {
+    for game in games {
+        black_box(&store(black_box(book), *black_box(game), out));
+    }
+}
+
+/// Reads each stored game in place of the one that it was. Both sides take the game by value and answer by value, as a round does.
+#[inline(always)]
+fn load_all(
+    load: impl Fn(&[u8], &[u8], Game) -> Outcome,
+    book: &[u8],
+    games: &[Game],
+    stored: &[Vec<u8>],
+) {
+    for (game, bytes) in games.iter().zip(stored) {
+        black_box(&load(black_box(book), black_box(bytes), *black_box(game)));
+    }
+}
+
+fn time_stores(timed: &TimedBook, games: &[Game]) {
+    let book = &timed.book;
+    let stored = stored_all(timed, games);
+    let (mut by_library, mut by_plain) = ([0; STORED_ROOM], [0; STORED_ROOM]);
+    time(
+        &format!("{}, storing", timed.name),
+        games.len(),
+        || store_all(library::store, book, games, &mut by_library),
+        || store_all(plain::store, book, games, &mut by_plain),
+    );
+    time(
+        &format!("{}, reading a stored game", timed.name),
+        games.len(),
+        || load_all(library::load, book, games, &stored),
+        || load_all(plain::load, book, games, &stored),
+    );
+}
+
 fn time_rounds(timed: &TimedBook, games: &[Game]) {
     let book = &timed.book;
     let mut marks = vec![0; 2 * plain::mark_steps(book)];
@@ -235,6 +308,7 @@ pub fn time_all() {
         time_fitting(&timed, &games);
         time_set_up(&timed, &games);
         time_orders(&timed, &games);
+        time_stores(&timed, &games);
         time_rounds(&timed, &games);
     }
 }

@@ -1,7 +1,10 @@
 // Runs the script of the input, a command a line, on a book and a game, and prints the answers.
 // A line that is no command is told, and the script goes on. The input is read in pieces, so a script may be far longer than one.
+mod buffers;
+mod changes;
 mod rounds;
 mod starts;
+mod stores;
 
 use game::blank_game;
 use hex::LONGEST;
@@ -16,6 +19,7 @@ use words::find;
 use words::first;
 use words::is;
 use words::part;
+use words::place_in;
 use words::rest;
 ghost use Prim.Native.Nat.{_≤_};
 ghost use lib.ListN.{length};
@@ -37,14 +41,16 @@ struct State {
 
 // The game after a line that sets no book.
 fn run_line(line: &[u8], book: &[u8], poked: Poked) -> Poked {
-    if is(first(line), b"round") {
-        return round(rest(line), book, poked);
+    let text = rest(line);
+    match place_in(b"round unstarted store load changes", first(line)) {
+        0 => return round(text, book, poked),
+        1 => starts::unstarted(text, book),
+        2 => stores::store(text, book, poked),
+        3 => return stores::load(text, book, poked),
+        4 => changes::changes(text, book, poked),
+        _ => return command(line, book, poked),
     }
-    if is(first(line), b"unstarted") {
-        starts::unstarted(rest(line), book);
-        return poked;
-    }
-    command(line, book, poked)
+    poked
 }
 
 // Runs the lines of a text; the last one may lack its end.

@@ -1,4 +1,6 @@
 // The routines that nobody starts, named in a buffer.
+use crate::buffers::UNTOUCHED;
+use crate::buffers::check_rest;
 use digits::Number;
 use digits::decimal;
 use layout::MOST_ROUTINES;
@@ -9,25 +11,10 @@ use unstarted::UnstartedNames;
 // The bytes of the longest buffer that is lent. A longer one would be answered alike, for 64 are enough for the names of any book.
 const LONGEST_BUFFER: usize = 256;
 
-// What the buffer holds before the call; no routine has this number.
-const UNTOUCHED: u8 = 255;
-
 // The numbers in front of the names: the verdict's, and how many names there are.
 const IN_FRONT: usize = 3;
 
 const MOST_NUMBERS: usize = IN_FRONT + MOST_ROUTINES;
-
-// Tells whether a byte behind the names has changed.
-fn check_rest(buffer: &[u8], count: usize) {
-    let mut at: usize = count;
-    while at < buffer.len() {
-        if buffer[at] != UNTOUCHED {
-            io::write_all(1, b"changed behind the names\n");
-            return;
-        }
-        at += 1;
-    }
-}
 
 fn print_names(answer: UnstartedNames, buffer: &[u8]) {
     let mut numbers = [0usize; MOST_NUMBERS];

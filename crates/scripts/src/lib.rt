@@ -13,12 +13,13 @@ pub use pokes::Poked;
 pub use pokes::given;
 pub use pokes::lent;
 use pokes::poke_field;
+pub use pokes::replaced;
 pub use pokes::unpoked;
+pub use printing::print_bytes;
 use printing::print_game;
 pub use printing::print_numbers;
 pub use printing::print_signed;
-use printing::print_steps;
-use printing::print_verdict;
+pub use printing::print_verdict;
 pub use printing::print_wrong;
 use words::first;
 use words::place_in;
@@ -39,18 +40,14 @@ fn show(text: &[u8], book: &[u8]) {
         print_wrong();
         return;
     };
-    print_steps(reading::show(book, routine as usize));
+    let none: [usize; 0] = [];
+    print_bytes(b"show", &none, reading::show(book, routine as usize));
 }
 
 fn set_up(book: &[u8], poked: Poked) -> Poked {
     let outcome = setup::set_up(book, poked.game);
     print_verdict(b"setup", outcome.verdict);
-    if outcome.verdict.number == 0 {
-        return unpoked(outcome.game);
-    }
-    let game = outcome.game;
-    let unheld = poked.unheld;
-    Poked { game, unheld }
+    replaced(poked, outcome)
 }
 
 fn order(text: &[u8], book: &[u8], poked: Poked) -> Poked {

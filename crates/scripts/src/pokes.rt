@@ -5,6 +5,7 @@
 // flag has no such value, and is noted beside the game.
 use crate::printing::print_wrong;
 use game::Game;
+use game::Outcome;
 use game::Routine;
 use game::blank_game;
 use layout::MOST_COUNTERS;
@@ -46,7 +47,7 @@ fn has_unheld(poked: Poked) -> bool {
     false
 }
 
-// The game that an order or a round is lent: the blank one, which fits no book, in place of one with such a flag.
+// The game that an order, a round or storing is lent: the blank one, which fits no book, in place of one with such a flag.
 pub fn lent(poked: Poked) -> Game {
     if has_unheld(poked) {
         return blank_game();
@@ -60,6 +61,16 @@ pub fn given(poked: Poked, game: Game) -> Poked {
         return poked;
     }
     unpoked(game)
+}
+
+// What a set-up or a reading of a stored game leaves: where it is refused, the game and its flags stay.
+pub fn replaced(poked: Poked, outcome: Outcome) -> Poked {
+    let game = outcome.game;
+    if outcome.verdict.number == 0 {
+        return unpoked(game);
+    }
+    let unheld = poked.unheld;
+    Poked { game, unheld }
 }
 
 // What a byte and a number of 16 bits get: the largest, which fits no book, in place of a number that they cannot hold.

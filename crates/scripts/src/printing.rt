@@ -1,4 +1,4 @@
-// What is printed: verdicts, steps and games. Nearly every line is a name with numbers behind it.
+// What is printed: verdicts, bytes and games. Nearly every line is a name with numbers behind it.
 use game::Game;
 use game::Routine;
 use kinds::Counts;
@@ -17,11 +17,15 @@ use texts::put_numbered;
 use texts::put_signed_numbered;
 use verdicts::Verdict;
 
-// The bytes that a line has room for, its end among them: the longest line but for steps, which are printed in parts.
+// The bytes that a line has room for, its end among them: the longest line but for bytes, which are printed in parts.
 const LINE: usize = 1024;
 
 pub fn print_wrong() {
     io::write_all(1, b"not a command\n");
+}
+
+fn put_text(line: &mut [u8; LINE], used: usize, text: &[u8]) -> usize {
+    put(line, used, text)
 }
 
 // Each number of a line has a space before it.
@@ -38,14 +42,20 @@ fn print_line(line: &mut [u8; LINE], used: usize) {
     print(line, end);
 }
 
-pub fn print_numbers(name: &[u8], numbers: &[usize]) {
-    let mut line = [0u8; LINE];
-    let mut used = put(&mut line, 0, name);
+// Puts a name and numbers at a line's front.
+fn put_numbers(line: &mut [u8; LINE], name: &[u8], numbers: &[usize]) -> usize {
+    let mut used = put(line, 0, name);
     let mut at: usize = 0;
     while at < numbers.len() {
-        used = put_number(&mut line, used, numbers[at]);
+        used = put_number(line, used, numbers[at]);
         at += 1;
     }
+    used
+}
+
+pub fn print_numbers(name: &[u8], numbers: &[usize]) {
+    let mut line = [0u8; LINE];
+    let used = put_numbers(&mut line, name, numbers);
     print_line(&mut line, used);
 }
 
@@ -74,12 +84,13 @@ fn put_or_print(line: &mut [u8; LINE], used: usize, byte: u8) -> usize {
     put_byte(line, used, byte)
 }
 
-// The digits of bytes, `-` for none.
-pub fn print_steps(bytes: &[u8]) {
+// The digits of bytes, `-` for none, behind a name and numbers.
+pub fn print_bytes(name: &[u8], numbers: &[usize], bytes: &[u8]) {
     let mut line = [0u8; LINE];
-    let mut used = put(&mut line, 0, b"show ");
+    let front = put_numbers(&mut line, name, numbers);
+    let mut used = put_text(&mut line, front, b" ");
     if bytes.len() == 0 {
-        used = put(&mut line, used, b"-");
+        used = put_text(&mut line, used, b"-");
     }
     let mut at: usize = 0;
     while at < bytes.len() {

@@ -1,0 +1,16 @@
+pub mod Forms
+pub mod Lengths
+pub mod Ends
+pub mod Bytes
+pub mod Bits
+pub mod Joined
+pub mod Places
+pub mod Records
+pub mod Decides
+pub mod Slots
+pub mod Again
+pub mod Small
+pub mod Parted
+pub mod Back
+pub mod Reasons
+pub mod Keeping

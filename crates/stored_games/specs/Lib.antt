@@ -1,0 +1,9 @@
+pub mod Bits
+pub mod Forms
+pub mod Stored
+pub mod Reading
+pub mod Formed
+pub mod Calls
+pub mod Reasons
+pub mod Claims
+pub mod Examples

@@ -1,0 +1,4 @@
+pub mod Answers
+pub mod Flags
+pub mod Puts
+pub mod Room
