@@ -4,7 +4,7 @@ use Rattle.numbers.specs.Numbers.{halfLimit}
 use Rattle.kinds.specs.declared.Counts.{Counts}
 use Rattle.stored_games.specs.declared.Parts.{Parts}
 
--- no place of a stored game is larger whose counts and set have 16 bits, and whose records have 8 bytes
+-- no place of a stored game is larger whose counts and set have 16 bits, and whose records have at most 8 bytes
 abbrev pub placeLimit : ℕ
 placeLimit = 1048576
 

@@ -30,7 +30,7 @@ use Rattle.stored_games.proofs.Bytes.{complement-signed}
 use Rattle.stored_games.proofs.Bits.{bits-back}
 use Rattle.stored_games.proofs.Lengths.{piece-within}
 use Rattle.stored_games.proofs.Joined.{take-more, joined-same, joined-pieces}
-use Rattle.stored_games.proofs.Places.{part-long, part-item, part-spelled, half-part, word-part}
+use Rattle.stored_games.proofs.Places.{part-bytes, part-long, part-spelled, half-part, word-part}
 use Rattle.stored_games.proofs.Records.{record-stored}
 use Rattle.stored_games.proofs.Slots.{slot-value, slot-beyond, slots-front, slots-length}
 
@@ -106,7 +106,7 @@ module _ {f : Form} (usable : Usable f) (s : List ℕ) (bytes : AreBytes s) (for
       let slot = slot-value mostRoutines R (λ k. routineByRecord (recordAt f s k)) blank r blank (omega (arith, formed .fewRoutines)) l in
       ap (λ x. recordOf f x) slot
       ∙ record-stored usable (recordAt f s r) (part-long s (gameHeaderBytes + f .recordsize * r) (f .recordsize) room)
-      (λ i k. rw (part-item s (gameHeaderBytes + f .recordsize * r) (f .recordsize) room i k) (bytes _)) (formed .flags r l))
+      (part-bytes s bytes (gameHeaderBytes + f .recordsize * r) (f .recordsize)) (formed .flags r l))
       ∙ joined-pieces gameHeaderBytes (f .recordsize) R s
 
   counters-again :

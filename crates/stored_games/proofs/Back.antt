@@ -25,17 +25,18 @@ use Rattle.game.specs.Game.{stopped, blank, routineAt, counterAt, isBroadcast}
 use Rattle.fitting.specs.Fits.{Fits}
 use Rattle.fitting.proofs.Lists.{used-all}
 use Rattle.stored_games.specs.declared.Form.{Form}
-use Rattle.stored_games.specs.Forms.{byteBits, Usable}
-use Rattle.stored_games.specs.Stored.{gameHeaderBytes, counterBytes, countBytes, countersFrom, listsFrom, gameHeader, recordOf}
-use Rattle.stored_games.specs.Stored.{lineBytes, setByte, stored, lengthOf}
+use Rattle.stored_games.specs.Forms.{byteBits, Usable, HoldsAll}
+use Rattle.stored_games.specs.Stored.{gameHeaderBytes, counterBytes, countBytes, countersFrom, listsFrom, gameHeader}
+use Rattle.stored_games.specs.Stored.{fieldsOf, recordOf, lineBytes, setByte, stored, lengthOf}
 use Rattle.stored_games.specs.Reading.{partsOf, recordAt, routineByRecord, inSlots, lineIn, signalIn, gameIn, flagLimit}
 use Rattle.stored_games.specs.Formed.{Formed}
 use Rattle.stored_games.proofs.Bytes.{half-back, complement-back}
 use Rattle.stored_games.proofs.Bits.{bit-back}
-use Rattle.stored_games.proofs.Lengths.{header-length, record-length}
+use Rattle.stored_games.proofs.Lengths.{header-length, record-length, record-bytes}
 use Rattle.stored_games.proofs.Ends.{recordsPart, countersPart, setPart, upToRecords, upToCounters, upToListed, upToStarting}
 use Rattle.stored_games.proofs.Ends.{records-end, counters-end, listed-end, starting-end, stored-length}
 use Rattle.stored_games.proofs.Parted.{Part, part-taken, part-read, first, second, half-read, word-read, joined-at, whole}
+use Rattle.stored_games.proofs.Places.{front-item}
 use Rattle.stored_games.proofs.Records.{flags-small, record-read}
 use Rattle.stored_games.proofs.Slots.{slot-value, slot-beyond, slots-length}
 use Rattle.stored_games.proofs.Small.{place-small, left-small}
@@ -101,7 +102,7 @@ module _ {f : Form} (usable : Usable f) {book : List ℕ} (a : Accepted book) {g
 
   places-small : (counters-place < halfLimit) × (lists-place < halfLimit)
   places-small =
-      let size = ap (λ size. size * g .counts .routines) (usable .wholeRecords) in (
+      let size = record-bytes usable (g .counts .routines) in (
         omega (arith, size, few-routines),
         omega (arith, size, few-routines, few-counters),
       )
@@ -206,9 +207,9 @@ module _ {f : Form} (usable : Usable f) {book : List ℕ} (a : Accepted book) {g
       part-taken (joined-at (f .recordsize) (g .counts .routines) (λ k. recordOf f (routineAt g k)) each records-part r h)
       (f .recordsize) (each r)
 
-  routines-back : gameIn f s .routines ≡ g .routines
+  routines-back : HoldsAll f → gameIn f s .routines ≡ g .routines
   unfolding gameIn
-  routines-back =
+  routines-back all =
       let R = g .counts .routines in
       let routine : ℕ → Routine = λ r. routineByRecord (recordAt f s r) in
       let slots = slots-length mostRoutines R routine blank in
@@ -221,7 +222,7 @@ module _ {f : Form} (usable : Usable f) {book : List ℕ} (a : Accepted book) {g
             let ours : r < routinesOf book = rw (ap (λ n. n .routines) (fits .numbers)) at k in
             slot-value mostRoutines R routine blank r blank near k
             ∙ ap routineByRecord (record-at r k)
-            ∙ record-read usable (routineAt g r) (place-small book a g fits r ours) (left-small book a g fits r ours)
+            ∙ record-read f all (routineAt g r) (place-small book a g fits r ours) (left-small book a g fits r ours)
         | no k ↦
             let beyond : routinesOf book ≤ r = omega (arith, k, ap (λ n. n .routines) (fits .numbers)) in
             slot-beyond mostRoutines R routine blank r blank near (omega arith) ∙ sym (fits .routinesBeyond r beyond near)
@@ -285,9 +286,9 @@ module _ {f : Form} (usable : Usable f) {book : List ℕ} (a : Accepted book) {g
         ]))
 
     -- "a fitting game that is stored reads back as that game"
-    pub game-back : gameIn f s ≡ g
+    pub game-back : HoldsAll f → gameIn f s ≡ g
     unfolding gameIn
-    game-back =
+    game-back all =
         let listed =
         line-read lists-place (g .listed) listed-part (fits .lengthsInRange .0) (fits .sized .listed) (fits .entriesBeyond .0)
         in
@@ -297,7 +298,7 @@ module _ {f : Form} (usable : Usable f) {book : List ℕ} (a : Accepted book) {g
         λ i.
         record {
           counts = record { routines = routines-read i; signals = signals-read i; counters = counters-read i };
-          routines = routines-back i;
+          routines = routines-back all i;
           counters = counters-back i;
           listed = (ap (λ p. lineIn s (p .listed)) parts-read ∙ listed) i;
           starting = (ap (λ p. lineIn s (p .starting)) parts-read ∙ starting) i;
@@ -315,12 +316,15 @@ module _ {f : Form} (usable : Usable f) {book : List ℕ} (a : Accepted book) {g
     record-stage : (r : ℕ) → r < g .counts .routines → getD (recordAt f s r) 0 0 ≤ stopped
     unfolding recordOf
     record-stage r h =
+        let x = routineAt g r in
         let ours : r < routinesOf book = rw (ap (λ n. n .routines) (fits .numbers)) at h in
-        rw (record-at r h, usable .wholeRecords) (fits .stagesInRange r ours)
+        rw (record-at r h) (omega (arith, front-item (f .recordsize) (fieldsOf x) 0, fits .stagesInRange r ours))
 
     record-flags : (r : ℕ) → r < g .counts .routines → getD (recordAt f s r) 1 0 < flagLimit
     unfolding recordOf
-    record-flags r h = rw (record-at r h, usable .wholeRecords) (flags-small (routineAt g r))
+    record-flags r h =
+        let x = routineAt g r in
+        rw (record-at r h) (omega (arith, front-item (f .recordsize) (fieldsOf x) 1, flags-small x))
 
     size-read : length s ≡ set-place + f .setsize
     unfolding lengthOf

@@ -1,13 +1,12 @@
 -- Form 1 is one that the laws and the code hold for.
 use lib.Dec.{lit<, lit≤}
-use mathlib.Core.Path.{refl}
 use Rattle.stored_games.specs.Forms.{form1, Usable}
 
 pub form1-usable : Usable form1
 form1-usable =
     record {
       smallNumber = lit< tt;
-      wholeRecords = refl;
+      fewFields = lit≤ tt;
       smallSet = lit< tt;
       bitsEnough = lit≤ tt;
       signalsKept = lit≤ tt;

@@ -16,7 +16,7 @@ use Rattle.book.specs.Accepted.{Accepted}
 use Rattle.game.specs.declared.Game.{Game}
 use Rattle.fitting.specs.Fits.{Fits, GivesFitting}
 use Rattle.stored_games.specs.declared.Form.{Form}
-use Rattle.stored_games.specs.Forms.{form1, Usable}
+use Rattle.stored_games.specs.Forms.{form1, Usable, HoldsAll}
 use Rattle.stored_games.specs.Stored.{stored}
 use Rattle.stored_games.specs.Reading.{gameIn}
 use Rattle.stored_games.specs.Formed.{Formed}
@@ -106,19 +106,19 @@ module _ (f : Form) (book : List ℕ) where
         sym (again s bytes first) ∙ ap (stored f) games ∙ again t others second
 
     -- of a book whose signals the form holds
-    reads-back-where : (Accepted book → signalsOf book ≤ f .mostsignals) → ReadsBack f book
-    reads-back-where holds g lent out e =
+    reads-back-where : HoldsAll f → (Accepted book → signalsOf book ≤ f .mostsignals) → ReadsBack f book
+    reads-back-where all holds g lent out e =
         let (a, fits, h) = store-accepts g out e in
         let s = stored f g in
         let few : g .counts .signals ≤ f .mostsignals = rw (ap (λ n. n .signals) (fits .numbers)) (holds a) in
-        let back = game-back usable a fits few in
+        let back = game-back usable a fits few all in
         let bytes : bytesWritten (storing f book g out) ≡ s = rw (stores g out (a, fits, h)) (take-append-seam s (drop (length s) out)) in
         rw bytes
         (loads s lent (a, stored-formed usable a fits few, rw back fits) ∙ rw back)
 
-    pub reads-back : signalsOf book ≤ f .mostsignals → ReadsBack f book
-    reads-back few = reads-back-where (λ a. few)
+    pub reads-back : HoldsAll f → signalsOf book ≤ f .mostsignals → ReadsBack f book
+    reads-back all few = reads-back-where all (λ a. few)
 
 -- form 1 holds the signals of every accepted book
 pub form1-reads-back : (book : List ℕ) → ReadsBack form1 book
-form1-reads-back book = reads-back-where form1 book form1-usable (λ a. a .laid .counts .fewSignals)
+form1-reads-back book = reads-back-where form1 book form1-usable refl (λ a. a .laid .counts .fewSignals)

@@ -3,7 +3,7 @@ use Prim.Native.Nat.{ℕ, zero, suc, _+_, _*_, _≤_, _<_}
 use mathlib.Core.Path.{_≡_, refl}
 use mathlib.Core.List.{List}
 use native.Mathlib.Omega.{arith}
-use native.Mathlib.Nat.{mul-suc, mul-le-mul-left}
+use native.Mathlib.Nat.{mul-suc, mul-le-mul-left, mul-le-mul-right}
 use lib.ListN.{length, length-append}
 use lib.Seq.{length-take-le}
 use Rattle.numbers.specs.Bytes.{halfBytes}
@@ -41,8 +41,8 @@ line-length l long =
 module _ {f : Form} (usable : Usable f) where
   pub record-length : (x : Routine) → length (recordOf f x) ≡ f .recordsize
   unfolding recordOf
-  record-length x = length-take-le (f .recordsize) (fieldsOf x) (rw (usable .wholeRecords) (omega arith))
+  record-length x = length-take-le (f .recordsize) (fieldsOf x) (omega (arith, usable .fewFields))
 
-  -- so the length of so many is linear in their number
-  pub record-bytes : (n : ℕ) → f .recordsize * n ≡ fieldBytes * n
-  record-bytes n = rw (usable .wholeRecords)
+  -- so many of them have no more bytes than the fields of so many routines
+  pub record-bytes : (n : ℕ) → f .recordsize * n ≤ fieldBytes * n
+  record-bytes n = mul-le-mul-right n (usable .fewFields)

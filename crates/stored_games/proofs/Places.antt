@@ -1,5 +1,5 @@
 -- Parts of a list, item by item: a part of two or four bytes is the number that is read there, as bytes.
-use Prim.Native.Nat.{ℕ, _+_, _≤_, _<_}
+use Prim.Native.Nat.{ℕ, zero, suc, _+_, _≤_, _<_}
 use mathlib.Core.Path.{_≡_, refl, sym, ap, _∙_}
 use mathlib.Core.List.{List, [], _∷_}
 use native.Mathlib.Omega.{arith}
@@ -18,6 +18,23 @@ pub spelled : (s : List ℕ) → listBelow (length s) (λ i. getD s i 0) ≡ s
 unfolding listBelow
 spelled [] = refl
 spelled (x ∷ s) = ap (λ l. x ∷ l) (spelled s)
+
+-- the first of the first values
+pub below-front : (n m : ℕ) (f : ℕ → ℕ) → n ≤ m → take n (listBelow m f) ≡ listBelow n f
+unfolding listBelow
+below-front zero m f h = refl
+below-front (suc n) zero f h = absurd (omega arith)
+below-front (suc n) (suc m) f h = ap (λ l. f 0 ∷ l) (below-front n m (λ i. f (suc i)) (omega arith))
+
+-- no item of a front is greater than that of the whole
+pub front-item : (n : ℕ) (s : List ℕ) (i : ℕ) → getD (take n s) i 0 ≤ getD s i 0
+front-item zero s i = omega arith
+front-item (suc n) [] i = omega arith
+front-item (suc n) (x ∷ s) zero = omega arith
+front-item (suc n) (x ∷ s) (suc i) = front-item n s i
+
+pub part-bytes : (s : List ℕ) → AreBytes s → (from n : ℕ) → AreBytes (take n (drop from s))
+part-bytes s bytes from n i = omega (arith, front-item n (drop from s) i, getD-drop from s i 0, bytes (from + i))
 
 module _ (s : List ℕ) (from n : ℕ) (h : from + n ≤ length s) where
   pub part-long : length (take n (drop from s)) ≡ n

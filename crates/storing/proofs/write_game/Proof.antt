@@ -9,7 +9,7 @@ use Rattle.layout.specs.Layout.{mostRoutines, mostSignals}
 use Rattle.lines.specs.Lines.{mostEntries, usedOf}
 use Rattle.fitting.proofs.Sizes.{length-mapped}
 use Rattle.stored_games.specs.Stored.{countBytes, listsFrom, stored, lengthOf}
-use Rattle.stored_games.proofs.Lengths.{record-bytes}
+use Rattle.stored_games.proofs.Lengths.{piece-within}
 use Rattle.stored_games.proofs.Ends.{recordsPart, upToRecords, upToCounters, upToListed, upToStarting}
 use Rattle.stored_games.proofs.Ends.{records-end, counters-end, listed-end, starting-end}
 use Rattle.storing.specs.Puts.{Put}
@@ -105,9 +105,7 @@ put-record-requires c κs =
     let put = at-loop l in
     let end = records-end usable (s .args .t2) (l .loop .routine) in
     let more = c .before .before .loop-test .taken in
-    let bytes = record-bytes usable (l .loop .routine) in
-    let all = record-bytes usable (s .args .t2 .counts .routines) in
-    (usable, omega (arith, put .place, put .sameLength, end, room s, usable .wholeRecords, bytes, all, more))
+    (usable, omega (arith, put .place, put .sameLength, end, room s, piece-within (s .args .form .recordsize) more))
 
 loop-again : tie.Need-loop-again Inv-loop μ-loop
 loop-again c =

@@ -1,7 +1,6 @@
--- `formed::parts_of` meets its contract: each place is the definition's. A record has 8 bytes, and counts and sizes have 16 bits, so no
--- place is beyond the limit.
-use Prim.Native.Nat.{_*_}
-use mathlib.Core.Path.{_≡_}
+-- `formed::parts_of` meets its contract: each place is the definition's. A record has at most 8 bytes, and counts and the set's size have
+-- 16 bits, so no place is beyond the limit.
+use Prim.Native.Nat.{_*_, _≤_}
 use native.Mathlib.Omega.{arith}
 use borrow.Author.Needs.{needs}
 use Rattle.stored_games.specs.Forms.{fieldBytes}
@@ -10,12 +9,12 @@ use Rattle.stored_games.proofs.Lengths.{record-bytes}
 use Rattle.loading.proofs.formed.parts_of.Statement.{statement}
 use Rattle.loading.proofs.formed.parts_of.Tie as tie
 
--- the bytes of all records
+-- the bytes of all records are few
 records :
     (c : tie.After-struct-known2) →
     let start = c .before .before .before .before in
     let counts = c .before .before .counts-in .result in
-    start .args .form .recordsize * counts .routines ≡ fieldBytes * counts .routines
+    start .args .form .recordsize * counts .routines ≤ fieldBytes * counts .routines
 records c = record-bytes (c .before .before .before .before .pre) _
 
 returns : tie.Need-returns
