@@ -1,4 +1,4 @@
--- What set-up and an order answer.
+-- What set-up, an order and reading a stored game answer.
 use lib.Dec.{eqb}
 use Rattle.numbers.specs.Choice.{if_then_else_}
 use Rattle.verdicts.specs.declared.Verdict.{Verdict}

@@ -53,7 +53,7 @@ pub struct Game {
     pub broadcast: [bool; MOST_SIGNALS],
 }
 
-// What set-up and an order answer: the verdict, and the game, which is as lent after a refusal.
+// What set-up, an order and reading a stored game answer: the verdict, and the game, which is as lent after a refusal.
 #[repr(C)]
 pub struct Outcome {
     pub verdict: Verdict,
