@@ -18,7 +18,7 @@ use Rattle.round.specs.declared.Ending.{Ending}
 use Rattle.round.specs.declared.Ending.the-variants.{Ended, Rested, Missed, Continued}
 use Rattle.round.specs.declared.Position.{Position}
 use Rattle.round.specs.declared.Turn.the-variants.{Took}
-use Rattle.round.specs.State.{State, withGame, Thing, signal, end, number, hasEnded, isThere}
+use Rattle.round.specs.State.{State, withGame, Thing, signal, end, number, countsAsEnded, isThere}
 use Rattle.round.specs.Actions.{positionOf, placed}
 use Rattle.round.specs.Rounds.{Ticks, stageAfter, withEnd, behindTurn, afterTurn, PlayedTurns, notTaken, taken, isDone}
 use Rattle.round.specs.Rounds.{ticksOf, turn}
@@ -62,13 +62,14 @@ module _ (book : List ℕ) (r : ℕ) (s : State) where
   pub turn-taken : isGoing s r ≡ true → turn book r s ≡ taken r (ticksOf book r s)
   turn-taken h = turn-by (λ p. p ≡ taken r (ticksOf book r s)) (λ g. clash h g) (λ g. refl)
 
--- the same things are there with routine r as a turn leaves it, if it has ended as it had
+-- the same things are there with routine r as a turn leaves it, if it counts as ended as it did
 pub there-behind :
-    (s : State) (r : ℕ) (how : Ending) (y : Position) → hasEnded (stageAfter how) ≡ hasEnded (routineAt (s .game) r .stage) → (t : Thing) →
+    (s : State) (r : ℕ) (how : Ending) (y : Position) →
+    countsAsEnded (stageAfter how) ≡ countsAsEnded (routineAt (s .game) r .stage) → (t : Thing) →
     isThere (withGame s (withRoutine (s .game) r (behindTurn (routineAt (s .game) r) how y))) t ≡ isThere s t
 unfolding isThere
 there-behind s r how y same (signal e) = refl
-there-behind s r how y same (end q) = same-end s _ q (same-set (λ x. hasEnded (x .stage)) (s .game .routines) r _ blank same q) refl
+there-behind s r how y same (end q) = same-end s _ q (same-set (λ x. countsAsEnded (x .stage)) (s .game .routines) r _ blank same q) refl
 there-behind s r how y same (number e k) = refl
 
 -- a routine to be continued where it stands is as it was
@@ -111,5 +112,5 @@ module _
     -- what is missing behind the steps is missing behind a turn that is to be continued
     pub after-missing : t .ending ≡ Continued → (thing : Thing) → isThere (t .state) thing ≡ false → isThere (afterTurn r t) thing ≡ false
     after-missing e thing h =
-        let same = there-behind (t .state) r Continued (t .position) (ap hasEnded (sym (standing-going .1))) thing in
+        let same = there-behind (t .state) r Continued (t .position) (ap countsAsEnded (sym (standing-going .1))) thing in
         rw e (same ∙ h)

@@ -21,7 +21,7 @@ use Rattle.orders.proofs.Stores.{entry-set, same-set}
 use Rattle.round.specs.declared.Effect.{Effect}
 use Rattle.round.specs.declared.Effect.the-variants.{Nothing, Mark, Put, Add, Give, GiveNumber, Start, Stop, Suspend, Resume}
 use Rattle.round.specs.State.{State, withGame, withNumbers, Thing, signal, end, number, gave, numbersWith, numbersOf}
-use Rattle.round.specs.State.{hasEnded, isEndThere, isThere}
+use Rattle.round.specs.State.{countsAsEnded, isEndThere, isThere}
 use Rattle.round.specs.Actions.{positionOf}
 use Rattle.round.specs.Ticks.{given, effectOn}
 use Rattle.round.specs.claims.Demand.{Comes}
@@ -117,7 +117,7 @@ effect-ungiven s (Resume t) h = ungiven
 
 -- a routine's end is there by its stage and its end signal alone
 pub same-end :
-    (s u : State) (r : ℕ) → hasEnded (routineAt (u .game) r .stage) ≡ hasEnded (routineAt (s .game) r .stage) →
+    (s u : State) (r : ℕ) → countsAsEnded (routineAt (u .game) r .stage) ≡ countsAsEnded (routineAt (s .game) r .stage) →
     u .endSignals ≡ s .endSignals → isThere u (end r) ≡ isThere s (end r)
 unfolding isThere isEndThere
 same-end s u r h k = rw (h, k)
@@ -126,7 +126,7 @@ same-end s u r h k = rw (h, k)
 pub same-things : {s u : State} → Untouched s u → Ungiven s u → (t : Thing) → isThere u t ≡ isThere s t
 unfolding isThere
 same-things a b (signal e) = ap (λ l. getD l e false) (b .present)
-same-things {s} {u} a b (end r) = same-end s u r (ap hasEnded (a .standings r .stage)) (a .endSignals)
+same-things {s} {u} a b (end r) = same-end s u r (ap countsAsEnded (a .standings r .stage)) (a .endSignals)
 same-things a b (number e k) = ap (λ l. leb k (length (numbersWith e l))) (b .numbers)
 
 numbers-append : (e : ℕ) (l m : List (ℕ × ℤ)) → numbersWith e (l ++ m) ≡ numbersWith e l ++ numbersWith e m

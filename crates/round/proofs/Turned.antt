@@ -21,7 +21,7 @@ use Rattle.orders.proofs.Stores.{same-set}
 use Rattle.round.specs.declared.Ending.{Ending}
 use Rattle.round.specs.declared.Ending.the-variants.{Ended, Rested, Missed, Continued}
 use Rattle.round.specs.declared.Position.{Position}
-use Rattle.round.specs.State.{State, withGame, Thing, signal, end, number, Event, ended, hasEnded, isEndThere, isThere}
+use Rattle.round.specs.State.{State, withGame, Thing, signal, end, number, Event, ended, countsAsEnded, isEndThere, isThere}
 use Rattle.round.specs.Rounds.{Ticks, stageAfter, behindTurn, afterTurn, ticksOf, turn}
 use Rattle.round.specs.claims.Demand.{endsRoutine, Comes}
 use Rattle.round.specs.claims.Sound.{Sound}
@@ -77,12 +77,12 @@ module _
         }
 
     -- a turn that does not end the routine
-    module _ (how : Ending) (y : Position) (other : hasEnded (stageAfter how) ≡ false) (noEnd : howMany endsRoutine events ≡ 0) where
+    module _ (how : Ending) (y : Position) (other : countsAsEnded (stageAfter how) ≡ false) (noEnd : howMany endsRoutine events ≡ 0) where
       abbrev after : State
       after = withGame u (withRoutine (u .game) r (behindTurn (routineAt (u .game) r) how y))
 
       same-there : (t : Thing) → isThere after t ≡ isThere u t
-      same-there = there-behind u r how y (other ∙ sym (ap hasEnded (a .standings r .stage ∙ goes)))
+      same-there = there-behind u r how y (other ∙ sym (ap countsAsEnded (a .standings r .stage ∙ goes)))
 
       resting-turned : Turned r s events after
       resting-turned =

@@ -109,14 +109,14 @@ numbersOf s e = numbersWith e (s .numbers)
 abbrev pub numberAt : State → ℕ → ℕ → ℤ
 numberAt s e k = getD (numbersOf s e) (k - 1) (pos 0)
 
--- a routine in this stage has ended, as a join asks: "Only stage 3 is TERM."
-abbrev pub hasEnded : ℕ → Bool
-hasEnded k = eqb k stage.ended
+-- a routine in this stage counts as ended for a join: "Only stage 3 is TERM."
+abbrev pub countsAsEnded : ℕ → Bool
+countsAsEnded k = eqb k stage.ended
 
--- Routine r has ended, or its end signal is present: what a join asks, by rules 17, 18, 28 and 29.
+-- Routine r counts as ended, or its end signal is present: what a join asks, by rules 17, 18, 28 and 29.
 -- "A join left waiting asks again at every try, by rules 17 and 28, whether the routine has ended."
 unfoldable pub isEndThere : State → ℕ → Bool
-isEndThere s r = hasEnded (routineAt (s .game) r .stage) || getD (s .endSignals) r false
+isEndThere s r = countsAsEnded (routineAt (s .game) r .stage) || getD (s .endSignals) r false
 
 unfoldable pub isThere : State → Thing → Bool
 isThere s (signal e) = getD (s .present) e false

@@ -12,7 +12,7 @@ use Rattle.game.specs.declared.Routine.{Routine}
 use Rattle.game.specs.Game.{notStarted, continuing, rested, ended, blank, routineAt}
 use Rattle.round.specs.declared.Ending.{Ending}
 use Rattle.round.specs.declared.Position.{Position}
-use Rattle.round.specs.State.{State, hasEnded}
+use Rattle.round.specs.State.{State, countsAsEnded}
 use Rattle.round.specs.Rounds.{stageAfter}
 use Rattle.rules.specs.Instructions.{Status}
 use Rattle.rules.specs.Schedulers.{Stage, stageBy, statusOf, isNotStarted}
@@ -64,8 +64,8 @@ abbrev pub seen : Routine → Stage
 seen x = stageOf (x .stage)
 
 -- what a join asks of it
-ended-stage : (k : ℕ) → paper.hasEnded (stageOf k) ≡ hasEnded k
-ended-stage = by-stage (λ k. paper.hasEnded (stageOf k) ≡ hasEnded k) refl refl refl refl (λ k a b c d. rw (a, b, c, d))
+ended-stage : (k : ℕ) → paper.countsAsEnded (stageOf k) ≡ countsAsEnded k
+ended-stage = by-stage (λ k. paper.countsAsEnded (stageOf k) ≡ countsAsEnded k) refl refl refl refl (λ k a b c d. rw (a, b, c, d))
 
 module _ (s : State) (ms : Marks) (t : ℕ) where
   pub stage-seen : statusOf (schedulerIn s ms) t ≡ seen (routineAt (s .game) t)
@@ -75,5 +75,5 @@ module _ (s : State) (ms : Marks) (t : ℕ) where
   pub not-started-view : isNotStarted (statusOf (schedulerIn s ms) t) ≡ eqb (routineAt (s .game) t .stage) notStarted
   not-started-view = ap isNotStarted stage-seen ∙ not-started-stage (routineAt (s .game) t .stage)
 
-  pub ended-view : paper.hasEnded (statusOf (schedulerIn s ms) t) ≡ hasEnded (routineAt (s .game) t .stage)
-  ended-view = ap paper.hasEnded stage-seen ∙ ended-stage (routineAt (s .game) t .stage)
+  pub ended-view : paper.countsAsEnded (statusOf (schedulerIn s ms) t) ≡ countsAsEnded (routineAt (s .game) t .stage)
+  ended-view = ap paper.countsAsEnded stage-seen ∙ ended-stage (routineAt (s .game) t .stage)

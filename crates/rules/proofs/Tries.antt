@@ -14,9 +14,9 @@ use Rattle.round.specs.State.{State, end, number, numbersWith, isEndThere, isTh
 use Rattle.round.specs.State as thing
 use Rattle.rules.specs.Instructions.{Pause, misses, missesFor, Status, TERM, COOP, CONT, Signal, signal, term, Instruction, nothing}
 use Rattle.rules.specs.Instructions.{await, join, awaitN, joinN}
-use Rattle.rules.specs.Schedulers.{isPresent, valuesFrom, valuesOf, statusOf, hasEnded}
-use Rattle.rules.specs.Rules.{Present, Absent, HasEnded, NotEnded, ⟨_&_⟩⟶[_]⟨_&_⟩, rule14, rule15, rule16, rule17, rule18}
-use Rattle.rules.specs.Rules.{rule18-again, rule25, rule26, rule27, rule28, rule29, rule29-again}
+use Rattle.rules.specs.Schedulers.{isPresent, valuesFrom, valuesOf, statusOf, countsAsEnded}
+use Rattle.rules.specs.Rules.{Present, Absent, CountsAsEnded, NotCountedAsEnded, ⟨_&_⟩⟶[_]⟨_&_⟩, rule14, rule15, rule16, rule17}
+use Rattle.rules.specs.Rules.{rule18, rule18-again, rule25, rule26, rule27, rule28, rule29, rule29-again}
 use Rattle.rules.specs.Scheduled.{schedulerIn}
 use Rattle.rules.proofs.Walks.{Marks}
 use Rattle.rules.proofs.Stages.{ended-view}
@@ -37,18 +37,18 @@ module _ (s : State) (ms : Marks) where
   unfolding isThere schedulerIn
   signal-there e = refl
 
-  end-there : (t : ℕ) → isThere s (end t) ≡ (hasEnded (statusOf (schedulerIn s ms) t) || isPresent (term t) (schedulerIn s ms))
+  end-there : (t : ℕ) → isThere s (end t) ≡ (countsAsEnded (statusOf (schedulerIn s ms) t) || isPresent (term t) (schedulerIn s ms))
   unfolding isThere isEndThere
   end-there t = rw (ended-view s ms t) (unfold schedulerIn in refl)
 
   end-found :
       (t : ℕ) → isThere s (end t) ≡ true →
-      HasEnded t (schedulerIn s ms) ⊎ (NotEnded t (schedulerIn s ms) × Present (term t) (schedulerIn s ms))
+      CountsAsEnded t (schedulerIn s ms) ⊎ (NotCountedAsEnded t (schedulerIn s ms) × Present (term t) (schedulerIn s ms))
   end-found t h =
-      first-or-second (hasEnded (statusOf (schedulerIn s ms) t)) (isPresent (term t) (schedulerIn s ms)) (sym (end-there t) ∙ h)
+      first-or-second (countsAsEnded (statusOf (schedulerIn s ms) t)) (isPresent (term t) (schedulerIn s ms)) (sym (end-there t) ∙ h)
 
-  end-missing : (t : ℕ) → isThere s (end t) ≡ false → NotEnded t (schedulerIn s ms) × Absent (term t) (schedulerIn s ms)
-  end-missing t h = neither (hasEnded (statusOf (schedulerIn s ms) t)) (isPresent (term t) (schedulerIn s ms)) (sym (end-there t) ∙ h)
+  end-missing : (t : ℕ) → isThere s (end t) ≡ false → NotCountedAsEnded t (schedulerIn s ms) × Absent (term t) (schedulerIn s ms)
+  end-missing t h = neither (countsAsEnded (statusOf (schedulerIn s ms) t)) (isPresent (term t) (schedulerIn s ms)) (sym (end-there t) ∙ h)
 
   number-there : (e k : ℕ) → isThere s (number e k) ≡ leb k (length (valuesOf (schedulerIn s ms) e))
   unfolding isThere schedulerIn
@@ -83,10 +83,10 @@ module _ (s : State) (ms : Marks) where
   -- a join of t, by what an await of term(t) comes to
   tried-end :
       (t : ℕ) {i later j after : Instruction} {w : Pause} → Tried (isPresent (term t) (schedulerIn s ms)) i later w →
-      (HasEnded t (schedulerIn s ms) → Idle j TERM nothing) →
-      (NotEnded t (schedulerIn s ms) → Idle i TERM nothing → Idle j TERM nothing) →
-      (NotEnded t (schedulerIn s ms) → Idle i (COOP w) later → Idle j (COOP w) after) →
-      (NotEnded t (schedulerIn s ms) → Idle i CONT i → Idle j CONT j) →
+      (CountsAsEnded t (schedulerIn s ms) → Idle j TERM nothing) →
+      (NotCountedAsEnded t (schedulerIn s ms) → Idle i TERM nothing → Idle j TERM nothing) →
+      (NotCountedAsEnded t (schedulerIn s ms) → Idle i (COOP w) later → Idle j (COOP w) after) →
+      (NotCountedAsEnded t (schedulerIn s ms) → Idle i CONT i → Idle j CONT j) →
       Tried (isThere s (end t)) j after w
   tried-end t w over found rests again =
       record {

@@ -10,7 +10,7 @@ use Rattle.rules.specs.Instructions.{rests, restsFor, misses, missesFor,
 use Rattle.rules.specs.Instructions.{Call, Expression, Instruction, nothing, call}
 use Rattle.rules.specs.Instructions.{_then_, while, whileInst, ifElse, cooperate, await, generate, generateValue, join, create, stop}
 use Rattle.rules.specs.Instructions.{suspend, resume, cooperateN, awaitN, joinN, getValue}
-use Rattle.rules.specs.Schedulers.{Scheduler, statusOf, hasEnded, isPresent, withMove, withSignal, withValue, valuesOf, content}
+use Rattle.rules.specs.Schedulers.{Scheduler, statusOf, countsAsEnded, isPresent, withMove, withSignal, withValue, valuesOf, content}
 use Rattle.rules.specs.Schedulers.{Called, returned, toStartPlus, toStopPlus, toSuspendPlus, toResumePlus}
 
 -- the expression is true in the environment; it changes nothing there
@@ -24,11 +24,11 @@ abbrev pub Absent : Signal → Scheduler → Type 0
 Absent e σ = isPresent e σ ≡ false
 
 -- t.status = TERM, and t.status ≠ TERM, as a join asks
-abbrev pub HasEnded : ℕ → Scheduler → Type 0
-HasEnded t σ = hasEnded (statusOf σ t) ≡ true
+abbrev pub CountsAsEnded : ℕ → Scheduler → Type 0
+CountsAsEnded t σ = countsAsEnded (statusOf σ t) ≡ true
 
-abbrev pub NotEnded : ℕ → Scheduler → Type 0
-NotEnded t σ = hasEnded (statusOf σ t) ≡ false
+abbrev pub NotCountedAsEnded : ℕ → Scheduler → Type 0
+NotCountedAsEnded t σ = countsAsEnded (statusOf σ t) ≡ false
 
 infix 1 ⟨_&_⟩⟶[_]⟨_&_⟩
 pub data ⟨_&_⟩⟶[_]⟨_&_⟩ : Instruction → Scheduler → Status → Instruction → Scheduler → Type 0 where
@@ -87,14 +87,14 @@ pub data ⟨_&_⟩⟶[_]⟨_&_⟩ : Instruction → Scheduler → Status → Ins
   -- 4.8 Join. Rule 18 is in two parts, since document 01 reads it otherwise where the wait goes on: "A join left waiting asks again at
   -- every try, by rules 17 and 28, whether the routine has ended. Rules 18 and 29 taken literally would leave only the wait for the end
   -- signal".
-  rule17 : {p t : ℕ} {σ : Scheduler} → HasEnded t σ → ⟨ join p t & σ ⟩⟶[ TERM ]⟨ nothing & σ ⟩
+  rule17 : {p t : ℕ} {σ : Scheduler} → CountsAsEnded t σ → ⟨ join p t & σ ⟩⟶[ TERM ]⟨ nothing & σ ⟩
   rule18 :
       {p t : ℕ} {i : Instruction} {σ σ′ : Scheduler} →
-      NotEnded t σ → ⟨ await p (term t) & σ ⟩⟶[ TERM ]⟨ i & σ′ ⟩ →
+      NotCountedAsEnded t σ → ⟨ await p (term t) & σ ⟩⟶[ TERM ]⟨ i & σ′ ⟩ →
       ⟨ join p t & σ ⟩⟶[ TERM ]⟨ i & σ′ ⟩
   rule18-again :
       {p t : ℕ} {i : Instruction} {σ σ′ : Scheduler} {α : Status} →
-      NotEnded t σ → ⟨ await p (term t) & σ ⟩⟶[ α ]⟨ i & σ′ ⟩ → α ≢ TERM →
+      NotCountedAsEnded t σ → ⟨ await p (term t) & σ ⟩⟶[ α ]⟨ i & σ′ ⟩ → α ≢ TERM →
       ⟨ join p t & σ ⟩⟶[ α ]⟨ join p t & σ′ ⟩
   -- 4.9 Create, 4.10 Stop, 4.11 Suspend, 4.12 Resume. Document 01 on rule 19: "A start of a routine that isn't in stage 0, or is already to
   -- start, adds nothing."
@@ -116,14 +116,14 @@ pub data ⟨_&_⟩⟶[_]⟨_&_⟩ : Instruction → Scheduler → Status → Ins
       Absent e σ → 0 < k → σ .current .eoi ≡ true →
       ⟨ awaitN p e k & σ ⟩⟶[ COOP (missesFor p (k - 1)) ]⟨ awaitN p e (k - 1) & σ ⟩
   -- 4.15 Join_n. Rule 29 is read as rule 18 is.
-  rule28 : {p t k : ℕ} {σ : Scheduler} → HasEnded t σ ⊎ (k ≤ 0) → ⟨ joinN p t k & σ ⟩⟶[ TERM ]⟨ nothing & σ ⟩
+  rule28 : {p t k : ℕ} {σ : Scheduler} → CountsAsEnded t σ ⊎ (k ≤ 0) → ⟨ joinN p t k & σ ⟩⟶[ TERM ]⟨ nothing & σ ⟩
   rule29 :
       {p t k : ℕ} {i : Instruction} {σ σ′ : Scheduler} →
-      NotEnded t σ → ⟨ awaitN p (term t) k & σ ⟩⟶[ TERM ]⟨ i & σ′ ⟩ →
+      NotCountedAsEnded t σ → ⟨ awaitN p (term t) k & σ ⟩⟶[ TERM ]⟨ i & σ′ ⟩ →
       ⟨ joinN p t k & σ ⟩⟶[ TERM ]⟨ i & σ′ ⟩
   rule29-again :
       {p t k k′ : ℕ} {σ σ′ : Scheduler} {α : Status} →
-      NotEnded t σ → ⟨ awaitN p (term t) k & σ ⟩⟶[ α ]⟨ awaitN p (term t) k′ & σ′ ⟩ → α ≢ TERM →
+      NotCountedAsEnded t σ → ⟨ awaitN p (term t) k & σ ⟩⟶[ α ]⟨ awaitN p (term t) k′ & σ′ ⟩ → α ≢ TERM →
       ⟨ joinN p t k & σ ⟩⟶[ α ]⟨ joinN p t k′ & σ′ ⟩
   -- 4.16 Generated Values
   rule30 :

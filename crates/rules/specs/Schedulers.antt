@@ -84,13 +84,13 @@ isAmong t (u ∷ us) = eqb t u || isAmong t us
 abbrev pub statusOf : Scheduler → ℕ → Stage
 statusOf σ t = getD (σ .threads .status) t notStarted
 
--- t.status = TERM, as a join asks by rules 17, 18, 28 and 29; document 01: "Only stage 3 is TERM."
-abbrev pub hasEnded : Stage → Bool
-hasEnded notStarted = false
-hasEnded continuing = false
-hasEnded rested = false
-hasEnded ended = true
-hasEnded stopped = false
+-- t.status = TERM, where a join asks for it, by rules 17, 18, 28 and 29; document 01: "Only stage 3 is TERM."
+abbrev pub countsAsEnded : Stage → Bool
+countsAsEnded notStarted = false
+countsAsEnded continuing = false
+countsAsEnded rested = false
+countsAsEnded ended = true
+countsAsEnded stopped = false
 
 abbrev pub isNotStarted : Stage → Bool
 isNotStarted notStarted = true

@@ -13,7 +13,7 @@ use Rattle.tables.specs.declared.Tally.{Tally}
 use Rattle.tables.specs.Tables.{stagesRow, endsRow, rowAt, routineIn, stateOf}
 use Rattle.numbers.proofs.Lists.{below-read}
 use Rattle.round.specs.declared.Act.{Act}
-use Rattle.round.specs.State.{Event, hasEnded, isEndThere}
+use Rattle.round.specs.State.{Event, countsAsEnded, isEndThere}
 use Rattle.round.specs.Ticks.{Tick, tickWith}
 
 -- what a choice of ticks comes to
@@ -35,6 +35,6 @@ module _ (g : Game) (counters : List ℤ) (flags : List Bool) (fields : List ℕ
   pub end-held :
       (r : ℕ) → r < mostRoutines →
       isEndThere (stateOf g counters flags fields given t eoi) r
-      ≡ (hasEnded (getD (rowAt stagesRow fields) r 0) || getD (rowAt endsRow flags) r false)
+      ≡ (countsAsEnded (getD (rowAt stagesRow fields) r 0) || getD (rowAt endsRow flags) r false)
   unfolding stateOf isEndThere
   end-held r h = rw (below-read mostRoutines (routineIn flags fields) r blank h)

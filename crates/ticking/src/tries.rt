@@ -20,7 +20,7 @@ ghost use lib.ListN.{length, getD, take};
 ghost use Rattle.numbers.specs.Choice.{if_then_else_};
 ghost use Rattle.layout.specs.Layout.{mostSignals};
 ghost use Rattle.tables.specs.Tables.{stagesRow, endsRow, rowAt, firstOfPair, pairsOf};
-ghost use Rattle.round.specs.State.{hasEnded, numbersWith};
+ghost use Rattle.round.specs.State.{countsAsEnded, numbersWith};
 ghost use Rattle.round.specs.Ticks as ticks;
 
 // A step that has begun its count, with so many left.
@@ -89,20 +89,20 @@ pub fn waits_for(x: Position, eoi: bool, there: bool, k: usize) -> Act
     }
 }
 
-// Whether a routine in this stage has ended, as a join asks.
-fn has_ended(stage: usize) -> bool
-    ensures { λ r. ⌜ r ≡ hasEnded stage ⌝ }
+// Whether a routine in this stage counts as ended for a join.
+fn counts_as_ended(stage: usize) -> bool
+    ensures { λ r. ⌜ r ≡ countsAsEnded stage ⌝ }
 {
     stage == ENDED as usize
 }
 
-// Whether a routine has ended, or its end signal is present.
+// Whether a routine counts as ended, or its end signal is present.
 pub fn end_there(flags: &[bool; FLAGS], fields: &[u32; FIELDS], routine: usize) -> bool
     ensures { λ r. ⌜ r ≡ (
-        hasEnded (getD (rowAt stagesRow (now (fields .entry))) routine 0)
+        countsAsEnded (getD (rowAt stagesRow (now (fields .entry))) routine 0)
         || getD (rowAt endsRow (now (flags .entry))) routine false) ⌝ }
 {
-    has_ended(field_at(fields, STAGES, routine)) || flag_at(flags, ENDS, routine)
+    counts_as_ended(field_at(fields, STAGES, routine)) || flag_at(flags, ENDS, routine)
 }
 
 // Whether the first number of a pair stands for signal e. Two order tests say equal: == on signed numbers is a fact about their bits.
