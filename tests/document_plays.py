@@ -113,14 +113,15 @@ SET_PLAYS = [
         Round(1, [ended(5), stopped(2)], [0], marks=[(0, 4)]),
         Round(1, [ended(5), stopped(2)], []),
     ),
-    # "T10 as T9 with two rests put in between the stop and the join: the end signal has gone by round 4, and the join waits for ever, 2
-    # passes a round."
+    # "T10 as T9 with two rests put in between the stop and the join: the end signal has gone by round 4". Document 02: "a routine that was
+    # stopped counts as ended for joins, at any later time. So T10's join now passes in round 4 with its mark, 1 pass."
     (
         books.T10,
         Round(1, [rested(2), UNSTARTED], [0], starting=[1]),
         Round(1, [rested(4), rested(2)], [0, 1], stopping=[1]),
         Round(1, [rested(5), stopped(2)], [0]),
-        *[Round(2, [rested(5), stopped(2)], [0])] * 5,
+        Round(1, [ended(7), stopped(2)], [0], marks=[(0, 4)]),
+        Round(1, [ended(7), stopped(2)], []),
     ),
     # "T11 999,999 plus 2 is 1,000,000; −1,000,000 plus −1 is −1,000,000."
     (

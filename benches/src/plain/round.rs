@@ -164,9 +164,9 @@ impl<'a> Round<'a> {
         numbers.nth(k as usize - 1).map(|&(_, value)| value)
     }
 
-    /// Whether a routine has ended or its end signal is present.
+    /// Whether a routine has ended or was stopped, or its end signal is present.
     fn end_there(&self, routine: usize) -> bool {
-        self.game.routines[routine].stage == ENDED || self.end_signals[routine]
+        matches!(self.game.routines[routine].stage, ENDED | STOPPED) || self.end_signals[routine]
     }
 
     /// A step that asks for something: where that is missing the routine is to be continued, and rests once the round is being closed.

@@ -109,9 +109,10 @@ numbersOf s e = numbersWith e (s .numbers)
 abbrev pub numberAt : State → ℕ → ℕ → ℤ
 numberAt s e k = getD (numbersOf s e) (k - 1) (pos 0)
 
--- a routine in this stage counts as ended for a join: "Only stage 3 is TERM."
+-- A routine in this stage counts as ended for a join: stages 3 and 4, the highest. Document 02: "a routine that was stopped counts as ended
+-- for joins, at any later time." Only the eight actions give stage 4, so within a round what comes for a join is the routine's end.
 abbrev pub countsAsEnded : ℕ → Bool
-countsAsEnded k = eqb k stage.ended
+countsAsEnded k = leb stage.ended k
 
 -- Routine r counts as ended, or its end signal is present: what a join asks, by rules 17, 18, 28 and 29.
 -- "A join left waiting asks again at every try, by rules 17 and 28, whether the routine has ended."

@@ -1,11 +1,11 @@
 -- A routine's stage in a state and its status in the scheduler that the state stands for: what the definitions ask of the stage is what
 -- the paper asks of the status. By the stages one by one, and by an entry of a map.
-use Prim.Native.Nat.{ℕ, zero, suc}
+use Prim.Native.Nat.{ℕ, zero, suc, _≤_}
 use mathlib.Core.Path.{_≡_, refl, ap, _∙_}
 use mathlib.Core.Bool.{false, _||_, true≢false}
 use mathlib.Core.Logic.{_≢_}
 use native.Mathlib.Omega.{arith}
-use borrow.Author.Tests.{ne-eqb}
+use borrow.Author.Tests.{eqb-false, ne-eqb, le-leb}
 use lib.Dec.{eqb}
 use lib.ListN.{List·getD-map}
 use Rattle.game.specs.declared.Routine.{Routine}
@@ -65,7 +65,11 @@ seen x = stageOf (x .stage)
 
 -- what a join asks of it
 ended-stage : (k : ℕ) → paper.countsAsEnded (stageOf k) ≡ countsAsEnded k
-ended-stage = by-stage (λ k. paper.countsAsEnded (stageOf k) ≡ countsAsEnded k) refl refl refl refl (λ k a b c d. rw (a, b, c, d))
+ended-stage =
+    by-stage (λ k. paper.countsAsEnded (stageOf k) ≡ countsAsEnded k) refl refl refl refl
+    (λ k a b c d.
+    let high : ended ≤ k = omega (arith, eqb-false k 0 a, eqb-false k 1 b, eqb-false k 2 c) in
+    rw (a, b, c, d, le-leb ended k high))
 
 module _ (s : State) (ms : Marks) (t : ℕ) where
   pub stage-seen : statusOf (schedulerIn s ms) t ≡ seen (routineAt (s .game) t)

@@ -23,7 +23,7 @@ Present e σ = isPresent e σ ≡ true
 abbrev pub Absent : Signal → Scheduler → Type 0
 Absent e σ = isPresent e σ ≡ false
 
--- t.status = TERM, and t.status ≠ TERM, as a join asks
+-- t.status = TERM, and t.status ≠ TERM, where a join asks for it; document 02: "a routine that was stopped counts as ended for joins"
 abbrev pub CountsAsEnded : ℕ → Scheduler → Type 0
 CountsAsEnded t σ = countsAsEnded (statusOf σ t) ≡ true
 
@@ -86,7 +86,8 @@ pub data ⟨_&_⟩⟶[_]⟨_&_⟩ : Instruction → Scheduler → Status → Ins
       ⟨ await p e & σ ⟩⟶[ COOP (misses p) ]⟨ await p e & σ ⟩
   -- 4.8 Join. Rule 18 is in two parts, since document 01 reads it otherwise where the wait goes on: "A join left waiting asks again at
   -- every try, by rules 17 and 28, whether the routine has ended. Rules 18 and 29 taken literally would leave only the wait for the end
-  -- signal".
+  -- signal". Rules 17, 18, 28 and 29 ask as document 02 reads them: "a routine that was stopped counts as ended for joins, at any later
+  -- time."
   rule17 : {p t : ℕ} {σ : Scheduler} → CountsAsEnded t σ → ⟨ join p t & σ ⟩⟶[ TERM ]⟨ nothing & σ ⟩
   rule18 :
       {p t : ℕ} {i : Instruction} {σ σ′ : Scheduler} →

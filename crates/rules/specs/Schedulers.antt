@@ -84,13 +84,14 @@ isAmong t (u ∷ us) = eqb t u || isAmong t us
 abbrev pub statusOf : Scheduler → ℕ → Stage
 statusOf σ t = getD (σ .threads .status) t notStarted
 
--- t.status = TERM, where a join asks for it, by rules 17, 18, 28 and 29; document 01: "Only stage 3 is TERM."
+-- t.status = TERM, where a join asks for it, by rules 17, 18, 28 and 29, as document 02 reads them: "a routine that was stopped counts as
+-- ended for joins, at any later time."
 abbrev pub countsAsEnded : Stage → Bool
 countsAsEnded notStarted = false
 countsAsEnded continuing = false
 countsAsEnded rested = false
 countsAsEnded ended = true
-countsAsEnded stopped = false
+countsAsEnded stopped = true
 
 abbrev pub isNotStarted : Stage → Bool
 isNotStarted notStarted = true

@@ -93,7 +93,7 @@ pub fn waits_for(x: Position, eoi: bool, there: bool, k: usize) -> Act
 fn counts_as_ended(stage: usize) -> bool
     ensures { λ r. ⌜ r ≡ countsAsEnded stage ⌝ }
 {
-    stage == ENDED as usize
+    ENDED as usize <= stage
 }
 
 // Whether a routine counts as ended, or its end signal is present.

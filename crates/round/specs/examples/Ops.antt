@@ -203,6 +203,34 @@ joining =
           ∷ [];
     }
 
+-- Document 02: "a routine that was stopped counts as ended for joins, at any later time. .. Only a routine given stage 4 counts; a stop of
+-- one never started still gives just its end signal for that round, and it may be started later." Routine 2 is stopped first, and never
+-- started: join 2 is past in round 2 and waits in round 4, until routine 2 has started and ended in round 5. Routine 1 gets stage 4 in
+-- round 3: both joins of it are past in round 4.
+abbrev pub joiningStopped : OpsRow
+joiningStopped =
+    record {
+      book =
+          book 0 0 (
+          (start 1 ∷ stop 2 ∷ rest
+          ∷ join 2 ∷ mark (pos 1) ∷ stop 1 ∷ rest
+          ∷ rest
+          ∷ join 1 ∷ joinFor 1 (pos 2) ∷ mark (pos 2)
+          ∷ start 2 ∷ join 2 ∷ mark (pos 3)
+          ∷ [])
+          ∷ (restFor (pos 9) ∷ [])
+          ∷ []
+          ∷ []
+          );
+      done =
+          gives 1 [] (at rested 3 ∷ at notStarted 0 ∷ withStop (at notStarted 0) ∷ []) []
+          ∷ gives 1 ((0, pos 1) ∷ []) (at rested 7 ∷ withStop (begun 0 8) ∷ at notStarted 0 ∷ []) []
+          ∷ gives 1 [] (at rested 8 ∷ placed blank stopped (begunAt 0 8) ∷ at notStarted 0 ∷ []) []
+          ∷ gives 2 ((0, pos 2) ∷ []) (at rested 12 ∷ placed blank stopped (begunAt 0 8) ∷ at notStarted 0 ∷ []) []
+          ∷ gives 2 ((0, pos 3) ∷ []) (at ended 14 ∷ placed blank stopped (begunAt 0 8) ∷ at ended 0 ∷ []) []
+          ∷ [];
+    }
+
 -- a routine that marks once in each round in which it has a turn
 abbrev pub marksOn : List (List ℕ)
 marksOn = while 0 equal (pos 0) ∷ mark (pos 5) ∷ rest ∷ end ∷ []
@@ -285,7 +313,7 @@ looping =
 
 abbrev pub opsTable : List OpsRow
 opsTable =
-    counting ∷ reading ∷ waiting ∷ waitingFor ∷ resting ∷ joining ∷ bySteps ∷ byOrders ∷ testing ∷ looping ∷ []
+    counting ∷ reading ∷ waiting ∷ waitingFor ∷ resting ∷ joining ∷ joiningStopped ∷ bySteps ∷ byOrders ∷ testing ∷ looping ∷ []
 
 pub as-played : map carriedOut opsTable ≡ opsTable
 unfolding doneFrom obeyed marksIn sumBelow round instant pass turn allDone ticks effectOn tick tickOf waitsFor fromEnd openingBefore
