@@ -1,11 +1,12 @@
 #!/usr/bin/env python3
-"""Writes the set plays of document 01 and its other examples, round by round, as commands of the vectors and their answers.
+"""Writes the set plays of document 01, T10 as document 02 has it, and document 01's other examples, round by round, as commands of the
+vectors and their answers.
 
 usage: document_plays.py STDIN STDOUT
 
 The two files are appended to: these lines stand at the end of crates/game_vectors/stdin and stdout. Each accepted book is set up and
-played, with a dump of the game behind every round. The answers are written out by hand from the document's sentences, which stand beside
-them; where a routine stands comes from what the document says of places: "Op 6, or a reading that stayed missing, leaves the place on the
+played, with a dump of the game behind every round. The answers are written out by hand from the documents' sentences, which stand beside
+them; where a routine stands comes from what document 01 says of places: "Op 6, or a reading that stayed missing, leaves the place on the
 step that follows it in the book; every other pause leaves it on its own step. An ended routine's place is its step count. Begun is set when
 op 7, 9 or 11 pauses, and cleared when that step is past."
 """

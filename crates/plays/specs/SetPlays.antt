@@ -1,4 +1,4 @@
--- The set plays T1 to T11 of document 01, from the books' bytes: one table, and one claim, proved by evaluation.
+-- The set plays T1 to T11 of document 01, T10 as document 02 has it, from the books' bytes: one table, and one claim, proved by evaluation.
 use Prim.Native.Nat.{ℕ, _*_}
 use mathlib.Core.Path.{_≡_, refl}
 use mathlib.Core.List.{List, [], _∷_, map}

@@ -1,1 +1,1 @@
-// The set plays of document 01, as claims about the definitions of a round. There is no code here.
+// The set plays of document 01, T10 as document 02 has it, as claims about the definitions of a round. There is no code here.

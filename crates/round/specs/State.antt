@@ -110,7 +110,8 @@ abbrev pub numberAt : State → ℕ → ℕ → ℤ
 numberAt s e k = getD (numbersOf s e) (k - 1) (pos 0)
 
 -- A routine in this stage counts as ended for a join: stages 3 and 4, the highest. Document 02: "a routine that was stopped counts as ended
--- for joins, at any later time." Only the eight actions give stage 4, so within a round what comes for a join is the routine's end.
+-- for joins, at any later time. .. Only a routine given stage 4 counts". Only the eight actions give stage 4, so within a round what comes
+-- for a join is the routine's end.
 abbrev pub countsAsEnded : ℕ → Bool
 countsAsEnded k = leb stage.ended k
 

@@ -64,8 +64,8 @@ abbrev pub seen : Routine → Stage
 seen x = stageOf (x .stage)
 
 -- what a join asks of it
-ended-stage : (k : ℕ) → paper.countsAsEnded (stageOf k) ≡ countsAsEnded k
-ended-stage =
+counts-stage : (k : ℕ) → paper.countsAsEnded (stageOf k) ≡ countsAsEnded k
+counts-stage =
     by-stage (λ k. paper.countsAsEnded (stageOf k) ≡ countsAsEnded k) refl refl refl refl
     (λ k a b c d.
     let high : ended ≤ k = omega (arith, eqb-false k 0 a, eqb-false k 1 b, eqb-false k 2 c) in
@@ -79,5 +79,5 @@ module _ (s : State) (ms : Marks) (t : ℕ) where
   pub not-started-view : isNotStarted (statusOf (schedulerIn s ms) t) ≡ eqb (routineAt (s .game) t .stage) notStarted
   not-started-view = ap isNotStarted stage-seen ∙ not-started-stage (routineAt (s .game) t .stage)
 
-  pub ended-view : paper.countsAsEnded (statusOf (schedulerIn s ms) t) ≡ countsAsEnded (routineAt (s .game) t .stage)
-  ended-view = ap paper.countsAsEnded stage-seen ∙ ended-stage (routineAt (s .game) t .stage)
+  pub counts-view : paper.countsAsEnded (statusOf (schedulerIn s ms) t) ≡ countsAsEnded (routineAt (s .game) t .stage)
+  counts-view = ap paper.countsAsEnded stage-seen ∙ counts-stage (routineAt (s .game) t .stage)

@@ -19,7 +19,7 @@ use Rattle.rules.specs.Rules.{Present, Absent, CountsAsEnded, NotCounted
 use Rattle.rules.specs.Rules.{rule18, rule18-again, rule25, rule26, rule27, rule28, rule29, rule29-again}
 use Rattle.rules.specs.Scheduled.{schedulerIn}
 use Rattle.rules.proofs.Walks.{Marks}
-use Rattle.rules.proofs.Stages.{ended-view}
+use Rattle.rules.proofs.Stages.{counts-view}
 
 pub coop-term : {w : Pause} → COOP w ≢ TERM
 coop-term e = true≢false (cc)
@@ -39,7 +39,7 @@ module _ (s : State) (ms : Marks) where
 
   end-there : (t : ℕ) → isThere s (end t) ≡ (countsAsEnded (statusOf (schedulerIn s ms) t) || isPresent (term t) (schedulerIn s ms))
   unfolding isThere isEndThere
-  end-there t = rw (ended-view s ms t) (unfold schedulerIn in refl)
+  end-there t = rw (counts-view s ms t) (unfold schedulerIn in refl)
 
   end-found :
       (t : ℕ) → isThere s (end t) ≡ true →

@@ -86,8 +86,8 @@ module _ (book : List ℕ) (a : Accepted book) where
     pub beyond : let n = numbersPerMark * length (σ .env .marks) in drop n (answer .buffer) ≡ drop n buffer
     pub sameLength : length (answer .buffer) ≡ length buffer
 
--- Demand 2, of an accepted round: the answer is what the paper's rules give, read as document 01 says; that they give no other is
--- `same-answer`, proofs/OneAnswer.antt.
+-- Demand 2, of an accepted round: the answer is what the paper's rules give, read as documents 01 and 02 say; that they give no other
+-- is `same-answer`, proofs/OneAnswer.antt.
 abbrev pub ByTheRules : List ℕ → Game → List ℤ → Answer → Type 0
 ByTheRules book g buffer answer =
     (a : Accepted book) × (log : Log) × (run : ℕ → Instruction) × (σ : Scheduler) × GivesAnswer book a g buffer answer log run σ

@@ -1,5 +1,5 @@
 -- Rules 1 to 32 of the paper: inst, sched, env ⟶ inst′, sched′, env′ with the status α above the arrow; here the scheduler holds the
--- environment. Each constructor has its rule's number. Where document 01 reads a rule otherwise, its sentence stands beside it.
+-- environment. Each constructor has its rule's number. Where document 01 or 02 reads a rule otherwise, its sentence stands beside it.
 use Prim.Native.Nat.{ℕ, _-_, _≤_, _<_}
 use mathlib.Core.Path.{_≡_}
 use mathlib.Core.Bool.{true, false}
@@ -23,7 +23,7 @@ Present e σ = isPresent e σ ≡ true
 abbrev pub Absent : Signal → Scheduler → Type 0
 Absent e σ = isPresent e σ ≡ false
 
--- t.status = TERM, and t.status ≠ TERM, where a join asks for it; document 02: "a routine that was stopped counts as ended for joins"
+-- t.status = TERM, and t.status ≠ TERM, where a join asks for it, as document 02 reads it
 abbrev pub CountsAsEnded : ℕ → Scheduler → Type 0
 CountsAsEnded t σ = countsAsEnded (statusOf σ t) ≡ true
 

@@ -64,6 +64,7 @@ pub data AsksFor : Step → Thing → Type 0 where
 -- given."
 pub data Comes : Thing → Event → Type 0 where
   signalGiven : {e k : ℕ} → Comes (signal e) (gave e k)
+  -- stage 4 never comes within a round
   routineEnded : {r : ℕ} → Comes (end r) (ended r)
   numberGiven : {e k : ℕ} → Comes (number e k) (gave e k)
 

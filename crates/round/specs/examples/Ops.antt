@@ -1,5 +1,5 @@
 -- Each of the 21 ops carried out, by steps and, where there is one, by an order: one table, and one claim, proved by evaluation. Books are
--- written by op and fields, and what is seen of each round is stated by hand from document 01's sentences. So two ops that were exchanged
+-- written by op and fields, and what is seen of each round is stated by hand from the documents' sentences. So two ops that were exchanged
 -- in the definitions and the relation together would still be found here.
 use Prim.Native.Nat.{ℕ, _+_}
 use mathlib.Core.Path.{_≡_, refl}
@@ -204,16 +204,16 @@ joining =
     }
 
 -- Document 02: "a routine that was stopped counts as ended for joins, at any later time. .. Only a routine given stage 4 counts; a stop of
--- one never started still gives just its end signal for that round, and it may be started later." Routine 2 is stopped first, and never
+-- one never started still gives just its end signal for that round, and it may be started later." Routine 2 is stopped before it is
 -- started: join 2 is past in round 2 and waits in round 4, until routine 2 has started and ended in round 5. Routine 1 gets stage 4 in
--- round 3: both joins of it are past in round 4.
+-- round 3, and is suspended too: both joins of it are past in round 4.
 abbrev pub joiningStopped : OpsRow
 joiningStopped =
     record {
       book =
           book 0 0 (
           (start 1 ∷ stop 2 ∷ rest
-          ∷ join 2 ∷ mark (pos 1) ∷ stop 1 ∷ rest
+          ∷ join 2 ∷ mark (pos 1) ∷ stop 1 ∷ suspend 1 ∷ rest
           ∷ rest
           ∷ join 1 ∷ joinFor 1 (pos 2) ∷ mark (pos 2)
           ∷ start 2 ∷ join 2 ∷ mark (pos 3)
@@ -224,10 +224,10 @@ joiningStopped =
           );
       done =
           gives 1 [] (at rested 3 ∷ at notStarted 0 ∷ withStop (at notStarted 0) ∷ []) []
-          ∷ gives 1 ((0, pos 1) ∷ []) (at rested 7 ∷ withStop (begun 0 8) ∷ at notStarted 0 ∷ []) []
-          ∷ gives 1 [] (at rested 8 ∷ placed blank stopped (begunAt 0 8) ∷ at notStarted 0 ∷ []) []
-          ∷ gives 2 ((0, pos 2) ∷ []) (at rested 12 ∷ placed blank stopped (begunAt 0 8) ∷ at notStarted 0 ∷ []) []
-          ∷ gives 2 ((0, pos 3) ∷ []) (at ended 14 ∷ placed blank stopped (begunAt 0 8) ∷ at ended 0 ∷ []) []
+          ∷ gives 1 ((0, pos 1) ∷ []) (at rested 8 ∷ withSuspend (withStop (begun 0 8)) ∷ at notStarted 0 ∷ []) []
+          ∷ gives 1 [] (at rested 9 ∷ suspendedOne (placed blank stopped (begunAt 0 8)) ∷ at notStarted 0 ∷ []) []
+          ∷ gives 2 ((0, pos 2) ∷ []) (at rested 13 ∷ suspendedOne (placed blank stopped (begunAt 0 8)) ∷ at notStarted 0 ∷ []) []
+          ∷ gives 2 ((0, pos 3) ∷ []) (at ended 15 ∷ suspendedOne (placed blank stopped (begunAt 0 8)) ∷ at ended 0 ∷ []) []
           ∷ [];
     }
 
