@@ -202,6 +202,12 @@ FORGOTTEN = book(
     counters=1,
 )
 
+# A hoard grows by 400,000 in each of four rounds, and a counter holds no more than 1,000,000: rounds 3 and 4 cut off 200,000 and 400,000.
+HOARD = book(
+    [while_(1, LESS, 4), add(0, 400000), add(1, 1), rest(), end(), mark(4)],
+    counters=2,
+)
+
 # Without a rest the while would go round for ever in one round: refused 7, at the while, step 1.
 ENDLESS = book(
     [mark(1), while_(0, EQUAL, 0), add(0, 0), end()],
@@ -222,6 +228,7 @@ def main():
         ("t9", T9),
         ("factions", FACTIONS),
         ("forgotten", FORGOTTEN),
+        ("hoard", HOARD),
         ("endless", ENDLESS),
         ("wrong_step", WRONG_STEP),
     ):

@@ -1,11 +1,17 @@
 #!/bin/sh
-# All tests: the gate, then the program that runs scripts on long ones, the program that plays a book on the example books and on refused
-# ones, the C program on the example books, and the C call on the vectors and on damaged books.
+# All tests: the gate, then the program that runs scripts on long ones, a model of rounds on the plays of both files, the program that plays
+# a book on the example books and on refused ones, what a play cuts off, the C program on the example books, and the C call on the vectors
+# and on damaged books.
 set -e
 cd "$(dirname "$0")/.."
 .ci/run
 tests/long_scripts.py
+tests/round_model.py tests/plays.in tests/plays.out
+tests/round_model.py tests/papers.in tests/papers.out
 tests/listings.py
+lost=$(examples/cut_off.sh examples/hoard.book | tr '\n' ';')
+echo "hoard.book: $lost"
+[ "$lost" = "round 1 cut off 0;round 2 cut off 0;round 3 cut off 200000;round 4 cut off 400000;round 5 cut off 0;in all 600000;" ]
 examples/build.sh
 told() {
     status=0
@@ -13,7 +19,7 @@ told() {
     echo "$1.book: $found"
     [ "$found" = "$3" ] && [ "$status" = "$2" ] || { echo "expected, with status $2: $3"; exit 1; }
 }
-for name in t3 t5 t9 factions; do
+for name in t3 t5 t9 factions hoard; do
     told "$name" 0 "accepted"
 done
 told forgotten 0 "accepted

@@ -122,10 +122,10 @@ def unheld():
     yield "poke susp 1 2", []
     yield "poke broadcast 1 -1", []
     yield "poke susp 1 1", []
-    yield "round 2", [f"round {UNFIT} 0 0"]
+    yield "round 2", [f"round {UNFIT} 0 0 0"]
     yield "book -", []
     yield "setup", ["setup 1 0"]
-    yield "round 2", ["round 1 0 0 0"]
+    yield "round 2", ["round 1 0 0 0 0"]
     yield "book " + SMALL.hex(), []
     yield "order 0 0", ["order " + UNFIT]
     yield "setup", ["setup 0 0"]
@@ -196,10 +196,10 @@ def full_list():
 def buffers():
     yield "book " + MARKS.hex(), []
     yield "setup", ["setup 0 0"]
-    yield "round 2047", ["round 10 0 0 0"]
+    yield "round 2047", ["round 10 0 0 0 0"]
     for length in (2048, 4294967295):
         yield "setup", ["setup 0 0"]
-        yield f"round {length}", ["round 0 0 1 1024", *(f"mark 0 {number}" for number in NUMBERS)]
+        yield f"round {length}", ["round 0 0 1 1024 0", *(f"mark 0 {number}" for number in NUMBERS)]
 
 
 def append(*parts):

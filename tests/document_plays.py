@@ -1,6 +1,6 @@
 #!/usr/bin/env python3
-"""Writes the set plays of document 01, T10 as document 02 has it, and document 01's other examples, round by round, as commands of the
-vectors and their answers.
+"""Writes the set plays of document 01, T10 as document 02 has it, document 01's other examples, and rounds at the edges of what is cut off,
+round by round, as commands of the vectors and their answers.
 
 usage: document_plays.py STDIN STDOUT
 
@@ -22,7 +22,7 @@ from document_games import append
 
 
 class Round(NamedTuple):
-    """A round's passes, the game behind it and the marks. Where no counters are given, all are 0."""
+    """A round's passes, the game behind it, the marks, and the total that was cut off. Where no counters are given, all are 0."""
 
     passes: int
     routines: Sequence[str]
@@ -31,6 +31,7 @@ class Round(NamedTuple):
     starting: Sequence[int] = ()
     stopping: Sequence[int] = ()
     counters: Sequence[int] = ()
+    lost: int = 0
 
 
 def stands(stage, place, begun=0, left=0):
@@ -124,10 +125,10 @@ SET_PLAYS = [
         Round(1, [ended(7), stopped(2)], [0], marks=[(0, 4)]),
         Round(1, [ended(7), stopped(2)], []),
     ),
-    # "T11 999,999 plus 2 is 1,000,000; −1,000,000 plus −1 is −1,000,000."
+    # "T11 999,999 plus 2 is 1,000,000; −1,000,000 plus −1 is −1,000,000." Each cuts off 1.
     (
         books.T11,
-        Round(1, [ended(4)], [0], counters=[1000000, -1000000]),
+        Round(1, [ended(4)], [0], counters=[1000000, -1000000], lost=2),
     ),
 ]
 
@@ -166,10 +167,67 @@ NESTED = [
     ),
 ]
 
+# Document 02: "The addition itself now tells, besides its sum, the distance between the true sum and the one given. The round's answer
+# carries the total of these over all additions of the round".
+CUT_OFF = [
+    # A distance is never below 0: 2 above the highest end and 3 below the lowest are 5.
+    (
+        m.book([m.set_counter(0, 999999), m.add(0, 3), m.set_counter(0, -999999), m.add(0, -4)], counters=1),
+        Round(1, [ended(4)], [0], counters=[-1000000], lost=5),
+    ),
+    # A sum that is just an end is the true one. A step that sets a counter is no addition.
+    (
+        m.book([m.add(0, 1000000), m.add(0, 0), m.set_counter(1, -1), m.add(1, -999999), m.set_counter(0, -1000000)], counters=2),
+        Round(1, [ended(5)], [0], counters=[-1000000, -1000000]),
+    ),
+    # "b's content is added to a", to itself where the two are one: 500,000 twice is an end, and twice that is 1,000,000 beyond it; then
+    # −600,000 twice is 200,000 beyond the other, and twice −1,000,000 is 1,000,000 beyond it.
+    (
+        m.book([m.set_counter(0, 500000), *[m.take(0, 0)] * 2, m.rest(), m.set_counter(0, -600000), *[m.take(0, 0)] * 2], counters=1),
+        Round(1, [rested(4)], [0], counters=[1000000], lost=1000000),
+        Round(1, [ended(7)], [0], counters=[-1000000], lost=1200000),
+    ),
+    # What is cut off is the counter that is added to: 999,999 plus −1,000,000 lies in the range, and −1,000,000 plus −1 does not.
+    (
+        m.book([m.set_counter(0, 999999), m.set_counter(1, -1000000), m.take(0, 1), m.take(1, 0)], counters=2),
+        Round(1, [ended(4)], [0], counters=[-1, -1000000], lost=1),
+    ),
+    # "over all additions of the round", in whatever routine and pass: in round 2 routine 1 adds 15 to 999,990, and routine 0, which waits
+    # for it until pass 2, adds 10. Round 1 cuts off nothing, and so does round 3, in which nothing is listed.
+    (
+        m.book(
+            [m.start(1), m.set_counter(0, 999990), m.rest(), m.wait(0), m.add(0, 10)],
+            [m.add(0, 15), m.signal(0)],
+            signals=1,
+            counters=1,
+        ),
+        Round(1, [rested(3), UNSTARTED], [0], starting=[1], counters=[999990]),
+        Round(2, [ended(5), ended(2)], [0, 1], counters=[1000000], lost=15),
+        Round(1, [ended(5), ended(2)], [], counters=[1000000]),
+    ),
+    # .. and of no other round: 600,000 is added once a round, and at last −1.
+    (
+        m.book(
+            [m.while_(0, m.LESS, 1000000), m.add(0, 600000), m.rest(), m.end(), *[m.add(0, 600000), m.rest()] * 2, m.add(0, -1)],
+            counters=1,
+        ),
+        Round(1, [rested(3)], [0], counters=[600000]),
+        Round(1, [rested(3)], [0], counters=[1000000], lost=200000),
+        Round(1, [rested(6)], [0], counters=[1000000], lost=600000),
+        Round(1, [rested(8)], [0], counters=[1000000], lost=600000),
+        Round(1, [ended(9)], [0], counters=[999999]),
+    ),
+    # A book of 1,024 steps: the first brings the counter to an end, and each other one adds as much again.
+    (
+        m.book([m.set_counter(0, 1000000), *[m.add(0, 1000000)] * 1023], counters=1),
+        Round(1, [ended(1024)], [0], counters=[1000000], lost=1023000000),
+    ),
+]
+
 
 def played(book, told):
     """One more round, with a buffer for one mark, and the game behind it."""
-    yield "round 2", [f"round 0 0 {told.passes} {len(told.marks)}", *("mark %d %d" % mark for mark in told.marks)]
+    yield "round 2", [f"round 0 0 {told.passes} {len(told.marks)} {told.lost}", *("mark %d %d" % mark for mark in told.marks)]
     yield "dump", dump(book, told)
 
 
@@ -192,7 +250,7 @@ def line(name, numbers):
 
 
 def accepted():
-    for book, *rounds in SET_PLAYS + PAUSING + NESTED:
+    for book, *rounds in SET_PLAYS + PAUSING + NESTED + CUT_OFF:
         yield "book " + book.hex(), []
         yield "setup", ["setup 0 0"]
         for told in rounds:
@@ -214,11 +272,38 @@ def refused():
                 yield "book " + book.hex(), []
                 yield "read", [f"read {number} {place}"]
                 yield "setup", [f"setup {number} {place}"]
-                yield "round 2", [f"round {number} {place} 0 0"]
+                yield "round 2", [f"round {number} {place} 0 0 0"]
     yield "dump", dump(t3, first)
     yield "book " + t3.hex(), []
     yield from played(t3, second)
 
 
+def largest_totals():
+    """'at most 1,024,000,000': each of 1,024 steps adds an end to a counter that a poke has put there."""
+    for end, step in ((1000000, m.add(0, 1000000)), (-1000000, m.take(0, 0))):
+        book = m.book([step] * 1024, counters=1)
+        yield "book " + book.hex(), []
+        yield "setup", ["setup 0 0"]
+        yield f"poke counter 0 {end}", []
+        yield from played(book, Round(1, [ended(1024)], [0], counters=[end], lost=1024000000))
+
+
+def refused_totals():
+    """'A refused round reports 0', also between two rounds that cut off 1 and 3, and where it would have cut off as much."""
+    book = m.book([m.set_counter(0, 999999), m.add(0, 2), m.mark(5), m.rest(), m.add(0, 3)], counters=1)
+    yield "book " + book.hex(), []
+    yield "setup", ["setup 0 0"]
+    yield "round 1", ["round 10 0 0 0 0"]
+    yield from played(book, Round(1, [rested(4)], [0], marks=[(0, 5)], counters=[1000000], lost=1))
+    yield "round 1", ["round 10 0 0 0 0"]
+    yield "poke counter 0 1000001", []
+    yield "round 2", ["round 9 0 0 0 0"]
+    yield "poke counter 0 1000000", []
+    yield "book -", []
+    yield "round 2", ["round 1 0 0 0 0"]
+    yield "book " + book.hex(), []
+    yield from played(book, Round(1, [ended(5)], [0], counters=[1000000], lost=3))
+
+
 if __name__ == "__main__":
-    append(accepted, refused)
+    append(accepted, refused, largest_totals, refused_totals)

@@ -70,6 +70,16 @@ mark 1 1
 """
 
 
+HOARD = """\
+round 1 passes 1 marks 0
+round 2 passes 1 marks 0
+round 3 passes 1 marks 0
+round 4 passes 1 marks 0
+round 5 passes 1 marks 1
+mark 0 4
+"""
+
+
 def run(what, content, told):
     answer = subprocess.run([PROGRAM], input=content, stdout=subprocess.PIPE, check=True).stdout.decode()
     if answer != told:
@@ -77,7 +87,7 @@ def run(what, content, told):
 
 
 def examples():
-    for name, told in (("t3", T3), ("t5", T5), ("t9", T9), ("factions", FACTIONS), ("forgotten", FORGOTTEN)):
+    for name, told in (("t3", T3), ("t5", T5), ("t9", T9), ("factions", FACTIONS), ("forgotten", FORGOTTEN), ("hoard", HOARD)):
         yield name, (EXAMPLES / (name + ".book")).read_bytes(), told
     for name, told in (("endless", "refused 7 1\n"), ("wrong_step", "refused 5 2\n")):
         yield name, (EXAMPLES / (name + ".book")).read_bytes(), told

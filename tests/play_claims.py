@@ -13,7 +13,8 @@ the lines that they answer are the listed ones. `rt dev round` checks them there
     show     shown
     setup    setUp: its verdict; its game is the next one
     order    ordered: its verdict; its game is the next one
-    round    answer, with a buffer of zeros: verdict, passes, count of marks, marks, the rest of the buffer; its game is the next one
+    round    answer, with a buffer of zeros: verdict, passes, count of marks, the total that was cut off, marks, the rest of the buffer; its
+             game is the next one
     log      of the last accepted round: its turns, each as the byte that stands for it
     facts    of that round, in the words of Demand.antt: its passes, signals given, routines ended, signal steps of the listed routines;
              that demand 3 held is a theorem, and the listed line must say so
@@ -414,7 +415,7 @@ markLines (x ∷ y ∷ rest) = (x ∷ y ∷ []) ∷ markLines rest
 abbrev roundLines : Answer → Lines
 roundLines a =
     let n = numbersPerMark * a .marks in
-    line (a .verdict .number ∷ a .verdict .place ∷ a .passes ∷ a .marks ∷ [])
+    line (a .verdict .number ∷ a .verdict .place ∷ a .passes ∷ a .marks ∷ a .lost ∷ [])
     ∷ markLines (take n (a .buffer))
     ++ (drop n (a .buffer) ∷ [])
 
@@ -611,7 +612,7 @@ def claimed(books):
             elif unheld and step.word in ("order", "round", "dump"):
                 skip = True
                 verdict = "9 0" if book.verdict == "0 0" else book.verdict
-                refusal = {"order": f"order {verdict}", "round": f"round {verdict} 0 0"}
+                refusal = {"order": f"order {verdict}", "round": f"round {verdict} 0 0 0"}
                 if step.word != "dump" and step.told != [refusal[step.word]]:
                     raise step.disagrees()
             skipped += skip

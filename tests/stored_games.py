@@ -267,7 +267,7 @@ def counting():
 def kept_games():
     """Books, commands that make a game, and the game."""
     yield T3, [SET_UP], T3.set_up()
-    yield T3, [SET_UP, ("round 2", ["round 0 0 2 0"])], ROUND_1
+    yield T3, [SET_UP, ("round 2", ["round 0 0 2 0 0"])], ROUND_1
     ordered = [Routine(2, 1, 1, **ORDERED), Routine(0, 1, **ORDERED)]
     for book, game in (
         (T3, ROUND_1._replace(routines=ordered, broadcast=(0,))),

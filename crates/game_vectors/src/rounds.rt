@@ -52,6 +52,7 @@ fn print_round(played: Played) {
         verdict.place as usize,
         played.passes,
         played.marks,
+        played.lost,
     ];
     print_numbers(b"round", &numbers);
 }

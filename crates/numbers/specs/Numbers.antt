@@ -4,7 +4,7 @@ use mathlib.Core.Bool.{Bool, _&&_}
 use mathlib.Core.List.{List}
 use lib.Dec.{ltb, eqb}
 use lib.ListN.{getD}
-use lib.IntN.{ℤ, pos, negsuc, _+ℤ_}
+use lib.IntN.{ℤ, pos, negsuc, natAbs, _+ℤ_, _-ℤ_}
 use lib.Signed.{_≤ℤ_, leZ, ltZ}
 use Rattle.numbers.specs.declared.Sum.{Sum}
 use Rattle.numbers.specs.Choice.{if_then_else_}
@@ -58,11 +58,13 @@ CounterInRange v = (lowestCounter ≤ℤ v) × (v ≤ℤ highestCounter)
 abbrev pub isWithin : ℤ → ℤ → ℤ → Bool
 isWithin n low high = leZ low n && leZ n high
 
--- "An addition beyond an end gives that end."
+-- "An addition beyond an end gives that end." Document 02: it "tells, besides its sum, the distance between the true sum and the one given".
 abbrev pub sumOf : ℤ → ℤ → Sum
 sumOf v n =
     let sum = v +ℤ n in
-    record { sum = if ltZ highestCounter sum then highestCounter else if ltZ sum lowestCounter then lowestCounter else sum }
+    if ltZ highestCounter sum then record { sum = highestCounter; lost = natAbs (sum -ℤ highestCounter) }
+    else if ltZ sum lowestCounter then record { sum = lowestCounter; lost = natAbs (lowestCounter -ℤ sum) }
+    else record { sum = sum; lost = 0 }
 
 -- a counter's content v against n, by "relation (0 equal, 1 less, 2 greater)": 1 where it holds, and 0
 abbrev pub relationOf : ℕ → ℤ → ℤ → ℕ

@@ -1,7 +1,10 @@
 // The numbers of a book: little-endian, of 16 bits and of 32 in two's complement.
 ghost use mathlib.Core.Path.{_≡_};
 ghost use Prim.Native.Nat.{_<_};
-ghost use Rattle.numbers.specs.Numbers.{halfLimit, halfOf, halfAt, numberOf, isWithin, countOf, sumOf, relationOf};
+ghost use lib.Dec.{T};
+ghost use lib.IntN.{natAbs, _-ℤ_};
+ghost use lib.Signed.{nonNeg};
+ghost use Rattle.numbers.specs.Numbers.{halfLimit, wordLimit, halfOf, halfAt, numberOf, isWithin, countOf, sumOf, relationOf};
 
 // The ends of n.
 pub const LOWEST: i32 = -1000000;
@@ -13,9 +16,10 @@ pub const LOWEST_COUNTER: i32 = -1000000;
 
 pub const HIGHEST_COUNTER: i32 = 1000000;
 
-// What an addition to a counter gives.
+// What an addition to a counter gives: the sum, and what was cut off, the distance between the true sum and the one given.
 pub struct Sum {
     pub sum: i32,
+    pub lost: u32,
 }
 
 // A number of 16 bits, from its low and its high byte.
@@ -66,6 +70,14 @@ pub fn count(n: i32) -> usize
     if n < 0 { 0 } else { n as usize }
 }
 
+// How far one number lies above another.
+fn distance(low: i64, high: i64) -> u32
+    requires { ⌜ (T (nonNeg (high -ℤ low))) × (natAbs (high -ℤ low) < wordLimit) ⌝ }
+    ensures { λ r. ⌜ r ≡ natAbs (high -ℤ low) ⌝ }
+{
+    (high - low) as u32
+}
+
 // A counter's content v with n added, kept between the counter's ends: 64 bits hold the sum of any two numbers of 32.
 pub fn sum_of(v: i32, n: i32) -> Sum
     ensures { λ r. ⌜ r ≡ sumOf v n ⌝ }
@@ -74,14 +86,19 @@ pub fn sum_of(v: i32, n: i32) -> Sum
     if (HIGHEST_COUNTER as i64) < sum {
         return Sum {
             sum: HIGHEST_COUNTER,
+            lost: distance(HIGHEST_COUNTER as i64, sum),
         };
     }
     if sum < (LOWEST_COUNTER as i64) {
         return Sum {
             sum: LOWEST_COUNTER,
+            lost: distance(sum, LOWEST_COUNTER as i64),
         };
     }
-    Sum { sum: sum as i32 }
+    Sum {
+        sum: sum as i32,
+        lost: 0,
+    }
 }
 
 // A counter's content v against n, by 0 equal, 1 less, 2 greater: 1 where the relation holds, and 0. Equal: n lies from v to v.

@@ -23,7 +23,7 @@ use Rattle.tables.specs.Tables.{rowAt, lastRow, routineIn, startLine, stateOf}
 
 -- nothing is counted yet
 abbrev pub noTally : Tally
-noTally = record { starting = 0; given = 0; marks = 0; moved = 0 }
+noTally = record { starting = 0; given = 0; marks = 0; lost = 0; moved = 0 }
 
 -- the eight actions are done: from game g, which fits an accepted book, the tables hold the state in which the first pass begins
 pub record Opened (book : List ℕ) (g : Game) (order : Line) (counters : List ℤ) (flags : List Bool) (fields : List ℕ) : Type 0 where

@@ -23,7 +23,7 @@ use Rattle.passing.proofs.Held.{still-whole}
 use Rattle.passing.proofs.TurnMarks.{marks-append}
 
 abbrev unmoved : Tally → Tally
-unmoved t = record { starting = t .starting; given = t .given; marks = t .marks; moved = 0 }
+unmoved t = record { starting = t .starting; given = t .given; marks = t .marks; lost = t .lost; moved = 0 }
 
 -- the flags for another pass
 next-pass-held :

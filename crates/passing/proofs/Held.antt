@@ -96,15 +96,18 @@ pub flag-whole :
     flags′ ≡ putIn k r v flags → Whole room flags′ fields t
 flag-whole k r v w put = still-whole w (ap length put ∙ put-length k r v _) refl (w .startingFits) (w .givenFits)
 
--- what is counted, with other marks, and with a move and so many numbers
+-- what is counted, with other marks, with a move and so many numbers, with so many to start, with so much more cut off
 abbrev pub marking : Tally → ℕ → Tally
-marking t n = record { starting = t .starting; given = t .given; marks = n; moved = t .moved }
+marking t n = record { starting = t .starting; given = t .given; marks = n; lost = t .lost; moved = t .moved }
 
 abbrev pub moving : Tally → ℕ → Tally
-moving t given = record { starting = t .starting; given = given; marks = t .marks; moved = 1 }
+moving t given = record { starting = t .starting; given = given; marks = t .marks; lost = t .lost; moved = 1 }
 
 abbrev pub adding : Tally → ℕ → Tally
-adding t n = record { starting = n; given = t .given; marks = t .marks; moved = t .moved }
+adding t n = record { starting = n; given = t .given; marks = t .marks; lost = t .lost; moved = t .moved }
+
+abbrev pub losing : Tally → ℕ → Tally
+losing t k = record { starting = t .starting; given = t .given; marks = t .marks; lost = t .lost + k; moved = t .moved }
 
 module _ (g : Game) (counters : List ℤ) (flags : List Bool) (fields : List ℕ) (given : List ℤ) (t : Tally) (eoi : Bool) where
   pub mark-held :
@@ -121,7 +124,8 @@ module _ (g : Game) (counters : List ℤ) (flags : List Bool) (fields : List ℕ
 
   pub add-held :
       (c : ℕ) (v : Sum) →
-      stateOf g (set counters c (v .sum)) flags fields given t eoi ≡ effectOn (Add c v) (stateOf g counters flags fields given t eoi)
+      stateOf g (set counters c (v .sum)) flags fields given (losing t (v .lost)) eoi
+      ≡ effectOn (Add c v) (stateOf g counters flags fields given t eoi)
   unfolding stateOf effectOn
   add-held c v = refl
 

@@ -1,5 +1,5 @@
--- The steps of a turn, one by one: what one more of them comes to, that its effect has a place in the tables, and, since numbers are never
--- taken back, that there is room for what it gives if there is for all that is given in the end.
+-- The steps of a turn, one by one: what one more of them comes to, that its effect has a place in the tables, and, since neither numbers
+-- nor what is cut off is ever taken back, that there is room for what it gives or cuts off if there is for all of it in the end.
 use Prim.Native.Nat.{ℕ, zero, suc, _-_, _/_, _≤_, _<_}
 use mathlib.Core.Path.{_≡_, refl, _∙_}
 use mathlib.Core.Bool.{Bool}
@@ -57,14 +57,15 @@ roomy-effect : (room : ℕ) (e : Effect) (s : State) → Roomy room (effectOn e 
 unfolding effectOn
 roomy-effect room Nothing s h = h
 roomy-effect room (Mark n) s h = h
-roomy-effect room (Put c v) s h = h
-roomy-effect room (Add c v) s h = h
-roomy-effect room (Give e) s h = h
-roomy-effect room (GiveNumber e v) s h = omega (arith, rw length-append at h)
-roomy-effect room (Start t) s h = h
-roomy-effect room (Stop t) s h = h
-roomy-effect room (Suspend t) s h = h
-roomy-effect room (Resume t) s h = h
+roomy-effect room (Put c v) s h = record { numbersFit = h .numbersFit; lostFits = h .lostFits }
+roomy-effect room (Add c v) s h = record { numbersFit = h .numbersFit; lostFits = omega (arith, h .lostFits) }
+roomy-effect room (Give e) s h = record { numbersFit = h .numbersFit; lostFits = h .lostFits }
+roomy-effect room (GiveNumber e v) s h =
+    record { numbersFit = omega (arith, rw length-append at (h .numbersFit)); lostFits = h .lostFits }
+roomy-effect room (Start t) s h = record { numbersFit = h .numbersFit; lostFits = h .lostFits }
+roomy-effect room (Stop t) s h = record { numbersFit = h .numbersFit; lostFits = h .lostFits }
+roomy-effect room (Suspend t) s h = record { numbersFit = h .numbersFit; lostFits = h .lostFits }
+roomy-effect room (Resume t) s h = record { numbersFit = h .numbersFit; lostFits = h .lostFits }
 
 roomy-follow :
     (room r : ℕ) (a : Act) (s : State) (m : Marks) (next : ℕ → State → Marks → Run) →
@@ -80,19 +81,21 @@ roomy-run room zero r steps x s m h = h
 roomy-run room (suc n) r steps x s m h =
     roomy-follow room r (actAt steps x s) s m (λ p u k. runOf n r steps (fresh p) u k) (λ p u k. roomy-run room n r steps (fresh p) u k) h
 
--- so there is room for what an effect gives
-room-for : (room : ℕ) (e : Effect) (s : State) → Roomy room (effectOn e s) → HasRoom room (length (s .numbers)) e
+-- so there is room for what an effect gives or cuts off, if the tables count as the state has it
+room-for :
+    (room : ℕ) (e : Effect) (s : State) (t : Tally) → length (s .numbers) ≡ t .given → s .lost ≡ t .lost → Roomy room (effectOn e s) →
+    HasRoom room t e
 unfolding effectOn
-room-for room Nothing s h = tt
-room-for room (Mark n) s h = tt
-room-for room (Put c v) s h = tt
-room-for room (Add c v) s h = tt
-room-for room (Give e) s h = tt
-room-for room (GiveNumber e v) s h = omega (arith, rw length-append at h)
-room-for room (Start t) s h = tt
-room-for room (Stop t) s h = tt
-room-for room (Suspend t) s h = tt
-room-for room (Resume t) s h = tt
+room-for room Nothing s t given lost h = tt
+room-for room (Mark n) s t given lost h = tt
+room-for room (Put c v) s t given lost h = tt
+room-for room (Add c v) s t given lost h = omega (arith, h .lostFits)
+room-for room (Give e) s t given lost h = tt
+room-for room (GiveNumber e v) s t given lost h = omega (arith, rw length-append at (h .numbersFit))
+room-for room (Start r) s t given lost h = tt
+room-for room (Stop r) s t given lost h = tt
+room-for room (Suspend r) s t given lost h = tt
+room-for room (Resume r) s t given lost h = tt
 
 -- a step that goes on changes what the tables have a place for
 module _ {steps : List ℕ} (p : Playable steps) where
@@ -100,7 +103,7 @@ module _ {steps : List ℕ} (p : Playable steps) where
   right-fits nothing = tt
   right-fits mark = tt
   right-fits (put h v) = omega (arith, p .fewCounters)
-  right-fits (add h v) = omega (arith, p .fewCounters)
+  right-fits (add h v few) = omega (arith, p .fewCounters)
   right-fits (give h) = omega (arith, p .fewSignals)
   right-fits (giveNumber h v) = omega (arith, p .fewSignals)
   right-fits (start h) = omega (arith, p .fewRoutines)
@@ -118,12 +121,18 @@ module _ {steps : List ℕ} (p : Playable steps) where
           (a : Act) (events : List Event) → a ≡ Goes q e → Sorted (p .counts) 0 steps x s a events → Right (p .counts) s e
       sorted-right a events same h = (rw same at h) .1
 
--- as many numbers are given as the tables count
+-- as many numbers are given as the tables count, and as much is cut off
 given-held :
     (g : Game) (counters : List ℤ) (flags : List Bool) (fields : List ℕ) (given : List ℤ) (t : Tally) (eoi : Bool) →
     t .given ≤ length given / 2 → length (stateOf g counters flags fields given t eoi .numbers) ≡ t .given
 unfolding stateOf
 given-held g counters flags fields given t eoi h = simp (length-take, pairs-length) (omega arith)
+
+lost-held :
+    (g : Game) (counters : List ℤ) (flags : List Bool) (fields : List ℕ) (given : List ℤ) (t : Tally) (eoi : Bool) →
+    stateOf g counters flags fields given t eoi .lost ≡ t .lost
+unfolding stateOf
+lost-held g counters flags fields given t eoi = refl
 
 -- the steps of a turn so far: the tables, with n steps left from position x, lead to what they led to at the start
 pub record Inside
@@ -159,12 +168,12 @@ module _
 
   -- or it goes on
   module _ (q : ℕ) (e : Effect) (act : (g : Game) → actAt steps x (held g) ≡ Goes q e) where
-    pub effect-room : (g : Game) → Roomy (length given₀ / 2) (all g .state) → HasRoom (length given₀ / 2) (tally .given) e
+    pub effect-room : (g : Game) → Roomy (length given₀ / 2) (all g .state) → HasRoom (length given₀ / 2) tally e
     effect-room g h =
         let room = length given₀ / 2 in
         let behind = rw (← (i .leads g), run-goes n r steps x (held g) _ some q e (act g)) at h in
-        rw (given-held g counters flags fields given tally eoi (rw (i .givenLong) (i .whole .givenFits))) at
-        (room-for room e (held g) (roomy-run room (n - 1) r steps (fresh q) _ _ behind))
+        room-for room e (held g) tally (given-held g counters flags fields given tally eoi (rw (i .givenLong) (i .whole .givenFits)))
+        (lost-held g counters flags fields given tally eoi) (roomy-run room (n - 1) r steps (fresh q) _ _ behind)
 
     pub goes-on :
         (counters′ : List ℤ) (flags′ : List Bool) (fields′ : List ℕ) (given′ marks′ : List ℤ) (tally′ : Tally) →

@@ -6,11 +6,13 @@ use lib.Dec.{ltb, eqb}
 use lib.ListN.{getD, set}
 use lib.IntN.{ℤ}
 use Rattle.numbers.specs.Choice.{if_then_else_}
+use Rattle.numbers.specs.Numbers.{wordLimit}
 use Rattle.layout.specs.Layout.{mostRoutines, mostSignals, mostCounters}
 use Rattle.lines.specs.Lines.{mostEntries, isIn}
 use Rattle.game.specs.Game.{notStarted}
 use Rattle.round.specs.declared.Effect.{Effect}
 use Rattle.round.specs.declared.Effect.the-variants.{Nothing, Mark, Put, Add, Give, GiveNumber, Start, Stop, Suspend, Resume}
+use Rattle.tables.specs.declared.Tally.{Tally}
 use Rattle.tables.specs.Tables.{stagesRow, startingRow, rowAt, startLine, pairPut, pairCount}
 use Rattle.ticking.specs.Acts.{markBy}
 
@@ -44,18 +46,18 @@ FitsTables (Stop t) = t < mostRoutines
 FitsTables (Suspend t) = t < mostRoutines
 FitsTables (Resume t) = t < mostRoutines
 
--- there is room for a number that an effect gives, with n given before
-abbrev pub HasRoom : ℕ → ℕ → Effect → Type 0
-HasRoom room n Nothing = Unit {0}
-HasRoom room n (Mark k) = Unit {0}
-HasRoom room n (Put c v) = Unit {0}
-HasRoom room n (Add c v) = Unit {0}
-HasRoom room n (Give e) = Unit {0}
-HasRoom room n (GiveNumber e v) = n < room
-HasRoom room n (Start t) = Unit {0}
-HasRoom room n (Stop t) = Unit {0}
-HasRoom room n (Suspend t) = Unit {0}
-HasRoom room n (Resume t) = Unit {0}
+-- there is room for a number that an effect gives and for what it cuts off, with so much counted before
+abbrev pub HasRoom : ℕ → Tally → Effect → Type 0
+HasRoom room t Nothing = Unit {0}
+HasRoom room t (Mark k) = Unit {0}
+HasRoom room t (Put c v) = Unit {0}
+HasRoom room t (Add c v) = t .lost + v .lost < wordLimit
+HasRoom room t (Give e) = Unit {0}
+HasRoom room t (GiveNumber e v) = t .given < room
+HasRoom room t (Start r) = Unit {0}
+HasRoom room t (Stop r) = Unit {0}
+HasRoom room t (Suspend r) = Unit {0}
+HasRoom room t (Resume r) = Unit {0}
 
 -- the marks: their buffer, and how many there are
 pub record Marks : Type 0 where

@@ -74,7 +74,7 @@ pub fn apply(
     marks: &mut [i32],
 ) -> Tally
     requires { ⌜ Whole (length (now given) / 2) (now flags) (now fields) before ⌝ }
-    requires { ⌜ (FitsTables effect) × (HasRoom (length (now given) / 2) (before .given) effect) × (routine < mostRoutines) ⌝ }
+    requires { ⌜ (FitsTables effect) × (HasRoom (length (now given) / 2) before effect) × (routine < mostRoutines) ⌝ }
     ensures { λ r. ⌜ ((g : Game) (eoi : Bool) →
         stateOf g (now (counters .exit)) (now (flags .exit)) (now (fields .exit)) (now (given .exit)) r eoi
         ≡ effectOn effect
@@ -87,7 +87,10 @@ pub fn apply(
         Effect::Nothing => {}
         Effect::Mark(n) => tally.marks = put_pair(marks, before.marks, routine, n),
         Effect::Put(c, v) => put_counter(counters, c, v),
-        Effect::Add(c, v) => put_counter(counters, c, v.sum),
+        Effect::Add(c, v) => {
+            put_counter(counters, c, v.sum);
+            tally.lost = before.lost + (v.lost as usize);
+        }
         Effect::Give(e) => {
             put_present(flags, e, true);
             tally.moved = 1;

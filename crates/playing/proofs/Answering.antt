@@ -18,11 +18,12 @@ use Rattle.fitting.specs.Fitting.{fitsBook}
 use Rattle.fitting.specs.Fits.{Fits}
 use Rattle.fitting.proofs.Decides.{fits-decides}
 use Rattle.round.specs.Rounds.{round}
-use Rattle.round.specs.Answers.{Answer, spaceFor, roundVerdict, turnedDown, playedOut, answer}
+use Rattle.round.specs.Answers.{mostLost, Answer, spaceFor, roundVerdict, turnedDown, playedOut, answer}
 use Rattle.round.specs.claims.Reasons.{RoundReason}
 use Rattle.round.specs.claims.Demand.{Demand3}
 use Rattle.round.proofs.Reasons.{round-reason-only, turned-down, played-out, answer-verdict}
 use Rattle.round.proofs.Demand.{round-accepted, answer-demand-3}
+use Rattle.round.proofs.Lost.{answer-lost}
 use Rattle.rules.specs.Claims.{ByTheRules}
 use Rattle.rules.proofs.Adequacy.{round-by-the-rules}
 
@@ -56,12 +57,14 @@ module _ (book : List ℕ) (g : Game) (buffer : List ℤ) where
       let e : roundVerdict book g buffer ≡ accepted = sym (answer-verdict book g buffer) ∙ round-accepted book a g f buffer h in
       rw e at (sym (played-out book g buffer (ap (λ (v : Verdict). v .number) e)))
 
-  -- an answer that is the definition's, and what is promised of it where it is accepted
+  -- an answer that is the definition's, with what is promised of it, and of it where it is accepted
   abbrev Promised : Answer → Type 0
   Promised r =
       (r ≡ answer book g buffer)
+      × ((r .lost ≤ mostLost)
       × ((r .verdict ≡ accepted → Demand3 book g (r .passes) (r .game))
-      × (r .verdict ≡ accepted → ByTheRules book g buffer r))
+      × (r .verdict ≡ accepted → ByTheRules book g buffer r)))
 
   pub promised : {r : Answer} → r ≡ answer book g buffer → Promised r
-  promised {r} e = subst Promised (sym e) (refl, (answer-demand-3 book g buffer, round-by-the-rules book g buffer))
+  promised {r} e =
+      subst Promised (sym e) (refl, (answer-lost book g buffer, (answer-demand-3 book g buffer, round-by-the-rules book g buffer)))

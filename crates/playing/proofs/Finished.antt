@@ -85,14 +85,18 @@ module _
     unfolding stateOf atStart
     game-held order e = rw e (ap (λ (s : State). s .game) (d .holds))
 
+    lost-held : tally .lost ≡ round book g .played .state .lost
+    unfolding stateOf
+    lost-held = ap (λ (s : State). s .lost) (d .holds)
+
     -- the answer of the round
     pub finished :
         (order : Line) (v : Verdict) (next : Game) → order ≡ atStart g .game .listed → v ≡ accepted →
         next ≡ gameOf (g .counts) order counters flags fields (tally .starting) → spaceFor book ≤ length before →
-        answered (record { verdict = v; game = next; passes = passes; marks = tally .marks }) after
+        answered (record { verdict = v; game = next; passes = passes; marks = tally .marks; lost = tally .lost }) after
         ≡ playedOut accepted (round book g) before
     finished order v next listed right is space =
         let marks = marksIn (traceOf book g) in
         let m = d .marked ∙ marks-front marks before (omega (arith, space, completed-once book a g f .space)) in
         let count : tally .marks ≡ length marks = ap (λ (k : Marks). k .count) m in
-        rw (right, is, game-held order listed, d .passed, ap (λ (k : Marks). k .buffer) m, count)
+        rw (right, is, game-held order listed, d .passed, ap (λ (k : Marks). k .buffer) m, count, lost-held)

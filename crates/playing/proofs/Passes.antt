@@ -1,5 +1,6 @@
 -- The passes of a round that is opened: its listed routines are ready, and there is room for the numbers that it gives, of which there are
--- at most as many as the book has steps. So the tables behind the passes hold the state that the definition gives.
+-- at most as many as the book has steps, and for what it cuts off. So the tables behind the passes hold the state that the definition
+-- gives.
 use Prim.Native.Nat.{ℕ, _≤_, _<_}
 use native.Mathlib.Nat.{zero-add}
 use mathlib.Core.Path.{_≡_, ap, _∙_}
@@ -18,6 +19,7 @@ use Rattle.round.specs.Actions.{atStart}
 use Rattle.round.specs.Rounds.{mostPasses, listedIn, instant, round}
 use Rattle.round.proofs.StartSound.{listed-below, at-start-sound}
 use Rattle.round.proofs.Once.{numbers-kept}
+use Rattle.round.proofs.Lost.{lost-few}
 use Rattle.tables.specs.declared.Tally.{Tally}
 use Rattle.tables.specs.Tables.{stateOf, Whole}
 use Rattle.passing.specs.Effects.{marksOf}
@@ -58,7 +60,12 @@ module _
     roomy room few given =
         let a = opened .accepted in
         let start = at-start-sound book g a (opened .fits) in
-        let enough : Roomy room (round book g .played .state) = omega (arith, few, numbers-kept book a g (opened .fits)) in
+        let enough : Roomy room (round book g .played .state) =
+        record {
+          numbersFit = omega (arith, few, numbers-kept book a g (opened .fits));
+          lostFits = omega (arith, lost-few book a g (opened .fits));
+        }
+        in
         rw (opened .holds given, opened .listed)
         (asking.passes-ask book a room (listedIn g) (listed-below start) mostPasses (atStart g) start enough)
 

@@ -29,4 +29,5 @@ pub record PassesDone
 
 -- the answer of the call, with the buffer that it leaves
 abbrev pub answered : Played → List ℤ → Answer
-answered p buffer = record { verdict = p .verdict; game = p .game; passes = p .passes; marks = p .marks; buffer = buffer }
+answered p buffer =
+    record { verdict = p .verdict; game = p .game; passes = p .passes; marks = p .marks; lost = p .lost; buffer = buffer }

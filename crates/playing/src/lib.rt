@@ -61,13 +61,14 @@ const SOME_NUMBERS: usize = NUMBERS_PER_PAIR * SOME_STEPS;
 
 const MANY_NUMBERS: usize = NUMBERS_PER_PAIR * MOST_STEPS;
 
-// What playing a round answers: the verdict, the game, the passes and the count of marks.
+// What playing a round answers: the verdict, the game, the passes, the count of marks, and how much its additions cut off.
 #[repr(C)]
 pub struct Played {
     pub verdict: Verdict,
     pub game: Game,
     pub passes: usize,
     pub marks: usize,
+    pub lost: usize,
 }
 
 // Nothing is counted yet.
@@ -78,6 +79,7 @@ fn no_tally() -> Tally
         starting: 0,
         given: 0,
         marks: 0,
+        lost: 0,
         moved: 0,
     }
 }
@@ -147,6 +149,7 @@ pub fn round(book: &[u8], game: Game, marks: &mut [i32]) -> Played
         game: next,
         passes: p.passes,
         marks: p.tally.marks,
+        lost: p.tally.lost,
     }
 }
 
@@ -173,7 +176,7 @@ fn mark_steps(book: &[u8]) -> usize
     count
 }
 
-// "After a refusal game and mark buffer are as lent, and passes and count of marks are 0."
+// "After a refusal game and mark buffer are as lent, and passes and count of marks are 0." Nothing is cut off either.
 fn turned_down(verdict: Verdict, game: Game) -> Played
     ensures { λ r. ⌜ ((buffer : List ℤ) → answered r buffer ≡ answers.turnedDown verdict game buffer) ⌝ }
 {
@@ -182,6 +185,7 @@ fn turned_down(verdict: Verdict, game: Game) -> Played
         game,
         passes: 0,
         marks: 0,
+        lost: 0,
     }
 }
 
@@ -189,6 +193,7 @@ fn turned_down(verdict: Verdict, game: Game) -> Played
 // gives more numbers than its book has steps.
 pub fn play(book: &[u8], game: Game, marks: &mut [i32]) -> Played
     ensures { λ r. ⌜ answered r (now (marks .exit)) ≡ answers.answer (now (book .entry)) game (now (marks .entry)) ⌝ }
+    ensures { λ r. ⌜ r .lost ≤ answers.mostLost ⌝ }
     ensures { λ r. ⌜ (r .verdict ≡ accepted → Demand3 (now (book .entry)) game (r .passes) (r .game)) ⌝ }
     ensures { λ r. ⌜ (r .verdict ≡ accepted →
         ByTheRules (now (book .entry)) game (now (marks .entry)) (answered r (now (marks .exit)))) ⌝ }

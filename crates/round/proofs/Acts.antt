@@ -10,6 +10,7 @@ use lib.IntN.{ℤ}
 use Rattle.kinds.specs.Ops.{opMark}
 use Rattle.numbers.specs.declared.Sum.{Sum}
 use Rattle.numbers.specs.Numbers.{CounterInRange}
+use Rattle.numbers.proofs.Sums.{mostLostByOne}
 use Rattle.kinds.specs.declared.Step.{Step}
 use Rattle.kinds.specs.declared.Counts.{Counts}
 use Rattle.kinds.specs.Steps.{opAt, stepAt, stepsIn}
@@ -38,7 +39,8 @@ pub data Right (counts : Counts) (s : State) : Effect → Type 0 where
   nothing : Right counts s Nothing
   mark : {n : ℤ} → Right counts s (Mark n)
   put : {c : ℕ} {v : ℤ} → c < counts .counters → (Ranged s → CounterInRange v) → Right counts s (Put c v)
-  add : {c : ℕ} {v : Sum} → c < counts .counters → CounterInRange (v .sum) → Right counts s (Add c v)
+  add :
+      {c : ℕ} {v : Sum} → c < counts .counters → CounterInRange (v .sum) → (Ranged s → v .lost ≤ mostLostByOne) → Right counts s (Add c v)
   give : {e : ℕ} → e < counts .signals → Right counts s (Give e)
   giveNumber : {e : ℕ} {v : ℤ} → e < counts .signals → (Ranged s → CounterInRange v) → Right counts s (GiveNumber e v)
   start : {t : ℕ} → t < counts .routines → Right counts s (Start t)

@@ -19,7 +19,7 @@ use Rattle.orders.proofs.Changed.{counter-fits}
 use Rattle.orders.proofs.Obeyed.{obeyed-fits}
 use Rattle.round.specs.declared.Effect.{Effect}
 use Rattle.round.specs.declared.Effect.the-variants.{Nothing, Mark, Put, Add, Give, GiveNumber, Start, Stop, Suspend, Resume}
-use Rattle.round.specs.State.{State, withGame, withNumbers}
+use Rattle.round.specs.State.{State, withGame, withNumbers, withLost}
 use Rattle.round.specs.Ticks.{given, effectOn}
 use Rattle.round.specs.claims.Sound.{Sound, NumbersRight}
 use Rattle.round.proofs.Acts.{Ranged, Right, nothing, mark, put, add, give, giveNumber}
@@ -28,7 +28,7 @@ use Rattle.round.proofs.Among.{all-append}
 
 module _ {book : List ℕ} {s : State} (h : Sound book s) where
   -- counters in use are in range, the others are 0, and so is anything beyond the array
-  sound-ranged : Ranged s
+  pub sound-ranged : Ranged s
   sound-ranged =
       let values = s .game .counters in
       record {
@@ -51,6 +51,10 @@ module _ {book : List ℕ} {s : State} (h : Sound book s) where
   -- another game
   pub game-sound : (g : Game) → Fits book g → Sound book (withGame s g)
   game-sound g f = record { fits = f; present = h .present; endSignals = h .endSignals; numbers = h .numbers }
+
+  -- another total of what was cut off
+  lost-sound : (n : ℕ) → Sound book (withLost s n)
+  lost-sound n = record { fits = h .fits; present = h .present; endSignals = h .endSignals; numbers = h .numbers }
 
   -- a signal is given, and these are the numbers then
   given-sound : (e : ℕ) (l : List (ℕ × ℤ)) → NumbersRight l → Sound book (withNumbers (given s e) l)
@@ -77,7 +81,7 @@ module _ (book : List ℕ) (a : Accepted book) where
   effect-sound s Nothing nothing h = h
   effect-sound s (Mark n) mark h = h
   effect-sound s (Put c v) (put below inside) h = counter-sound h c v below (inside (sound-ranged h))
-  effect-sound s (Add c v) (add below inside) h = counter-sound h c (v .sum) below inside
+  effect-sound s (Add c v) (add below inside few) h = lost-sound (counter-sound h c (v .sum) below inside) _
   effect-sound s (Give e) (give below) h = given-sound h e (s .numbers) (h .numbers)
   effect-sound s (GiveNumber e v) (giveNumber below inside) h =
       given-sound h e _ (all-append (λ x. CounterInRange (x .1)) (s .numbers) ((e, v) ∷ []) (h .numbers) (inside (sound-ranged h), tt))

@@ -20,7 +20,7 @@ use Rattle.game.specs.Game.{blank, routineAt, withFlags, withRoutine}
 use Rattle.orders.proofs.Stores.{entry-set, same-set}
 use Rattle.round.specs.declared.Effect.{Effect}
 use Rattle.round.specs.declared.Effect.the-variants.{Nothing, Mark, Put, Add, Give, GiveNumber, Start, Stop, Suspend, Resume}
-use Rattle.round.specs.State.{State, withGame, withNumbers, Thing, signal, end, number, gave, numbersWith, numbersOf}
+use Rattle.round.specs.State.{State, withGame, withLost, withNumbers, Thing, signal, end, number, gave, numbersWith, numbersOf}
 use Rattle.round.specs.State.{countsAsEnded, isEndThere, isThere}
 use Rattle.round.specs.Actions.{positionOf}
 use Rattle.round.specs.Ticks.{given, effectOn}
@@ -98,8 +98,8 @@ pub record Ungiven (s u : State) : Type 0 where
   pub numbers : u .numbers ≡ s .numbers
   pub moved : u .moved ≡ s .moved
 
--- another game, or the same
-pub ungiven : {s : State} {g : Game} → Ungiven s (withGame s g)
+-- another game, or the same, and another total of what was cut off, or the same
+pub ungiven : {s : State} {g : Game} {n : ℕ} → Ungiven s (withLost (withGame s g) n)
 ungiven = record { present = refl; numbers = refl; moved = refl }
 
 pub effect-ungiven : (s : State) (e : Effect) → isGiving e ≡ false → Ungiven s (effectOn e s)

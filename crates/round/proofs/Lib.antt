@@ -56,6 +56,7 @@ pub mod Enough
 pub mod OneStep
 pub mod Once
 pub mod After
+pub mod Lost
 pub mod Reasons
 pub mod Closed
 pub mod Demand

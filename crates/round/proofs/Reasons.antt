@@ -74,7 +74,7 @@ module _ (book : List ℕ) (g : Game) (buffer : List ℤ) where
 abbrev pub Playable : List ℕ → Game → List ℤ → Type 0
 Playable book g buffer = Accepted book × Fits book g × (spaceFor book ≤ length buffer)
 
-round-clauses :
+pub round-clauses :
     {book : List ℕ} {g : Game} {buffer : List ℤ} {v : Verdict} → RoundReason book g buffer v → v .number ≡ 0 → Playable book g buffer
 round-clauses (RoundReason.book t) e = absurd (omega arith)
 round-clauses (RoundReason.unfit a m) e = absurd (omega arith)

@@ -1,6 +1,6 @@
 -- The 21 kinds sorted: at any position of any bytes, a step goes on along an edge, with a right effect and its events, or it halts
 -- the turn at a position where fitting lets a routine stand. By the kind of the step, its form, its op and its fields.
-use Prim.Native.Nat.{ℕ, zero, suc, _+_, _-_}
+use Prim.Native.Nat.{ℕ, zero, suc, _+_, _-_, _≤_}
 use mathlib.Core.Path.{_≡_, refl, ap, _∙_}
 use mathlib.Core.Bool.{Bool, true, false}
 use mathlib.Core.List.{List, [], _∷_}
@@ -12,9 +12,9 @@ use lib.ListN.{getD}
 use lib.IntN.{ℤ, pos}
 use lib.Signed.{leZ-yes}
 use Rattle.numbers.specs.Choice.{if_then_else_}
-use Rattle.numbers.specs.Numbers.{CounterInRange, relationOf}
+use Rattle.numbers.specs.Numbers.{CounterInRange, sumOf, relationOf}
 use Rattle.numbers.specs.Sums.{AddsUp, within, above, below}
-use Rattle.numbers.proofs.Sums.{adds-up}
+use Rattle.numbers.proofs.Sums.{adds-up, mostLostByOne, lost-by-one}
 use Rattle.numbers.proofs.Tests.{by-test}
 use Rattle.kinds.specs.declared.Kind.{Kind}
 use Rattle.kinds.specs.declared.Kind.the-variants as kind
@@ -37,17 +37,17 @@ use Rattle.round.specs.claims.Demand.{wait, waitFor, join, joinFor, read
 use Rattle.round.specs.claims.Sound.{NumbersRight}
 use Rattle.round.proofs.Forms.{opOf, step-op}
 use Rattle.round.proofs.Leads.{isHalt, nextBy, formAt, Leaves, leads, restOver}
-use Rattle.round.proofs.Acts.{Sorted, SortedTick}
+use Rattle.round.proofs.Acts.{Ranged, Sorted, SortedTick}
 use Rattle.round.proofs.Acts.{nothing, mark, put, add, give, giveNumber, start, stop, suspend, resume}
 use Rattle.round.proofs.Acts.{silent, marks, gives, givesNumber, ends, rests}
 use Rattle.round.proofs.Fields.{FieldsRight, fields-right}
 use Rattle.round.proofs.Tries.{some-left, fresh-stands, begun-stands, tries-sorted, waits-sorted, waits-for-sorted}
 
 -- "An addition beyond an end gives that end."
-sum-in-range : {v n z : ℤ} → AddsUp v n z → CounterInRange z
+sum-in-range : {v n z : ℤ} {k : ℕ} → AddsUp v n z k → CounterInRange z
 sum-in-range (within inside) = inside
-sum-in-range (above h) = (leZ-yes tt, leZ-yes tt)
-sum-in-range (below h) = (leZ-yes tt, leZ-yes tt)
+sum-in-range (above h e) = (leZ-yes tt, leZ-yes tt)
+sum-in-range (below h e) = (leZ-yes tt, leZ-yes tt)
 
 -- a number given with signal e, or 0 where there is none
 number-in-range : (e : ℕ) (xs : List (ℕ × ℤ)) (i : ℕ) → NumbersRight xs → CounterInRange (getD (numbersWith e xs) i (pos 0))
@@ -98,11 +98,14 @@ module _ (counts : Counts) (r : ℕ) (steps : List ℕ) (x : Position) (s : Stat
   kind-sorted (kind.Mark n) e f = (behind (form-there e), mark, marks (op-there e))
   kind-sorted (kind.Set c n) e f = (behind (form-there e), put (f .0) (λ ranged. f .1), silent refl (rw (op-there e)))
   kind-sorted (kind.Add c n) e f =
-      let sum = adds-up (counterAt (s .game) c) n in
-      (behind (form-there e), add (f .0) (sum-in-range sum), silent refl (rw (op-there e)))
+      let v = counterAt (s .game) c in
+      let few : Ranged s → sumOf v n .lost ≤ mostLostByOne = λ ranged. lost-by-one v n (ranged .counters c) (f .1) in
+      (behind (form-there e), add (f .0) (sum-in-range (adds-up v n)) few, silent refl (rw (op-there e)))
   kind-sorted (kind.Take c d) e f =
-      let sum = adds-up (counterAt (s .game) c) (counterAt (s .game) d) in
-      (behind (form-there e), add (f .0) (sum-in-range sum), silent refl (rw (op-there e)))
+      let v = counterAt (s .game) c in
+      let n = counterAt (s .game) d in
+      let few : Ranged s → sumOf v n .lost ≤ mostLostByOne = λ ranged. lost-by-one v n (ranged .counters c) (ranged .counters d) in
+      (behind (form-there e), add (f .0) (sum-in-range (adds-up v n)) few, silent refl (rw (op-there e)))
   kind-sorted (kind.Signal a) e f = (behind (form-there e), give f, gives (rw (op-there e)))
   kind-sorted (kind.SignalNumber a c) e f =
       (behind (form-there e), giveNumber (f .0) (λ ranged. ranged .counters c), givesNumber (rw (op-there e)))

@@ -102,6 +102,8 @@ atStart g =
       endSignals = map (λ x. x .stopping) (g .routines);
       -- 8. No numbers are given yet.
       numbers = [];
+      -- Document 02: "the total of these over all additions of the round"
+      lost = 0;
       -- "The move flag is clear when a round's first pass begins"
       moved = false;
       -- 7.

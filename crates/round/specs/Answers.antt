@@ -62,11 +62,17 @@ pub record Answer : Type 0 where
   pub game : Game
   pub passes : ℕ
   pub marks : ℕ
+  -- Document 02: "The round's answer carries the total of these", the distances between the true sums and those given
+  pub lost : ℕ
   pub buffer : List ℤ
 
--- "After a refusal game and mark buffer are as lent, and passes and count of marks are 0."
+-- .. "over all additions of the round, which is at most 1,024,000,000": that it is, is Lost.antt's claim
+abbrev pub mostLost : ℕ
+mostLost = 1024000000
+
+-- "After a refusal game and mark buffer are as lent, and passes and count of marks are 0." Document 02: "A refused round reports 0."
 abbrev pub turnedDown : Verdict → Game → List ℤ → Answer
-turnedDown v g buffer = record { verdict = v; game = g; passes = 0; marks = 0; buffer = buffer }
+turnedDown v g buffer = record { verdict = v; game = g; passes = 0; marks = 0; lost = 0; buffer = buffer }
 
 -- "An accepted round gives the game, the passes, the count of marks, and the marks in the order made; the buffer beyond the marks is
 -- untouched."
@@ -78,6 +84,7 @@ playedOut v p buffer =
       game = p .played .state .game;
       passes = p .passes;
       marks = length marks;
+      lost = p .played .state .lost;
       buffer = written marks ++ drop (numbersPerMark * length marks) buffer;
     }
 

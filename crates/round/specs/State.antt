@@ -18,11 +18,13 @@ pub record State : Type 0 where
   pub endSignals : List Bool
   -- the numbers given so far, in order, each behind its signal (values)
   pub numbers : List (ℕ × ℤ)
+  -- what the additions so far have cut off, all together
+  pub lost : ℕ
   -- move and eoi
   pub moved : Bool
   pub eoi : Bool
 
--- a state with another game, other signals, other end signals, other numbers, other flags
+-- a state with another game, other signals, other end signals, other numbers, another total of what was cut off, other flags
 abbrev pub withGame : State → Game → State
 withGame s g =
     record {
@@ -30,6 +32,7 @@ withGame s g =
       present = s .present;
       endSignals = s .endSignals;
       numbers = s .numbers;
+      lost = s .lost;
       moved = s .moved;
       eoi = s .eoi;
     }
@@ -41,6 +44,7 @@ withPresent s l =
       present = l;
       endSignals = s .endSignals;
       numbers = s .numbers;
+      lost = s .lost;
       moved = s .moved;
       eoi = s .eoi;
     }
@@ -52,6 +56,7 @@ withEndSignals s l =
       present = s .present;
       endSignals = l;
       numbers = s .numbers;
+      lost = s .lost;
       moved = s .moved;
       eoi = s .eoi;
     }
@@ -63,6 +68,19 @@ withNumbers s l =
       present = s .present;
       endSignals = s .endSignals;
       numbers = l;
+      lost = s .lost;
+      moved = s .moved;
+      eoi = s .eoi;
+    }
+
+abbrev pub withLost : State → ℕ → State
+withLost s n =
+    record {
+      game = s .game;
+      present = s .present;
+      endSignals = s .endSignals;
+      numbers = s .numbers;
+      lost = n;
       moved = s .moved;
       eoi = s .eoi;
     }
@@ -74,6 +92,7 @@ withMoves s moved eoi =
       present = s .present;
       endSignals = s .endSignals;
       numbers = s .numbers;
+      lost = s .lost;
       moved = moved;
       eoi = eoi;
     }

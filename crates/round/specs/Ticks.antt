@@ -20,8 +20,8 @@ use Rattle.round.specs.declared.Effect.{Effect}
 use Rattle.round.specs.declared.Effect.the-variants.{Nothing, Mark, Put, Add, Give, GiveNumber, Start, Stop, Suspend, Resume}
 use Rattle.round.specs.declared.Act.{Act}
 use Rattle.round.specs.declared.Act.the-variants.{Goes, Halts}
-use Rattle.round.specs.State.{State, withGame, withPresent, withNumbers, withMoves, Thing, signal, end, number, Event, gave}
-use Rattle.round.specs.State.{ended, missing, past, marked, numbersOf, numberAt, isThere}
+use Rattle.round.specs.State.{State, withGame, withPresent, withNumbers, withLost, withMoves, Thing, signal, end, number, Event}
+use Rattle.round.specs.State.{gave, ended, missing, past, marked, numbersOf, numberAt, isThere}
 use Rattle.round.specs.Jumps.{pastPartner, fromEnd}
 
 -- what a step comes to, and what happens in it
@@ -148,7 +148,7 @@ unfoldable pub effectOn : Effect → State → State
 effectOn Nothing s = s
 effectOn (Mark n) s = s
 effectOn (Put c v) s = withGame s (withCounter (s .game) c v)
-effectOn (Add c v) s = withGame s (withCounter (s .game) c (v .sum))
+effectOn (Add c v) s = withLost (withGame s (withCounter (s .game) c (v .sum))) (s .lost + v .lost)
 effectOn (Give e) s = given s e
 effectOn (GiveNumber e v) s = givenNumber s e v
 effectOn (Start t) s = withGame s (withStarting (s .game) (withStart (s .game .starting) t (routineAt (s .game) t .stage)))

@@ -34,7 +34,7 @@ use Rattle.rules.proofs.Buffers.{written-marks, written-beyond, written
 
 -- a game between two rounds
 between : Game → State
-between g = record { game = g; present = []; endSignals = []; numbers = []; moved = false; eoi = false }
+between g = record { game = g; present = []; endSignals = []; numbers = []; lost = 0; moved = false; eoi = false }
 
 -- a game's own threads stand for it
 threads-stand : (book : List ℕ) (a : Accepted book) (g : Game) → StandFor book a (threadsOf book a g) g
@@ -55,7 +55,7 @@ unfolding between schedulerIn
 round-by-the-rules book g buffer e =
     let ((a, fits, space), played) = accepted-played book g buffer e in
     let (run, log, derived, passes, stands, positions) =
-    round-given book a (threadsOf book a g) (between g) [] fits (threads-stand book a g) in
+    round-given book a (threadsOf book a g) (between g) [] fits refl (threads-stand book a g) in
     let last = round book g .played .state in
     let marks = marksIn (round book g .played .trace) in
     let room : numbersPerMark * length marks ≤ length buffer = omega (arith, space, completed-once book a g fits .space) in (
@@ -75,6 +75,7 @@ round-by-the-rules book g buffer e =
             standing = stands;
             fits = round-fits book a g fits;
             markCount = refl;
+            lost = refl;
             buffered = written-marks marks (drop (numbersPerMark * length marks) buffer);
             beyond = written-beyond marks (drop (numbersPerMark * length marks) buffer);
             sameLength = written-length marks buffer room;

@@ -22,10 +22,10 @@ none-same b [] = refl
 none-same {B = B} b (x ∷ l) = ap (λ (m : List B). b ∷ m) (none-same b l)
 
 pub chains :
-    (book : List ℕ) (s : State) (ms : List (ℕ × ℤ)) → CountsInRange book → Fits book (s .game) →
+    (book : List ℕ) (s : State) (ms : List (ℕ × ℤ)) → CountsInRange book → Fits book (s .game) → s .lost ≡ 0 →
     withMoveClear (chained (schedulerIn s ms)) ≡ schedulerIn (atStart (s .game)) ms
 unfolding chained schedulerIn atStart
-chains book s ms range f =
+chains book s ms range f none =
     let g = s .game in
     let joined = sym (joined-entries book g range f) in
     let actual = ap (actual₆ g) joined ∙ sym (order-same g) ∙ sym (at-start-entries book g range f) in
@@ -44,5 +44,5 @@ chains book s ms range f =
             toResume = flag-cleared g (λ x. x .resuming) (λ x. refl) i;
           };
       threads = record { status = status i; susp = suspended-same g i };
-      env = record { counters = g .counters; marks = ms };
+      env = record { counters = g .counters; marks = ms; lost = none i };
     }

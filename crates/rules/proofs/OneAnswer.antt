@@ -41,23 +41,25 @@ left-once paused paused s = cc
 pub same-answer :
     (book : List ℕ) (g : Game) (buffer : List ℤ) (x y : Answer) → ByTheRules book g buffer x → ByTheRules book g buffer y → x ≡ y
 same-answer book g buffer x y (a, log, run, σ, p) (c, other, run′, σ′, q) =
-    let derived = subst (λ (run : ℕ → Instruction). Round other run (schedulerOf g []) run′ σ′) (threads-same book c a g) (q .derived) in
+    let derived = subst (λ (run : ℕ → Instruction). Round other run (schedulerOf g [] 0) run′ σ′) (threads-same book c a g) (q .derived) in
     let (logs, _, lasts) = instant-determined derived (p .derived) in
     let marks : Marks = σ .env .marks in
     let same : σ′ .env .marks ≡ marks = ap (λ (τ : Scheduler). τ .env .marks) lasts in
-    let schedulers : schedulerOf (x .game) marks ≡ schedulerOf (y .game) marks =
+    let cut : σ′ .env .lost ≡ σ .env .lost = ap (λ (τ : Scheduler). τ .env .lost) lasts in
+    let schedulers : schedulerOf (x .game) marks (σ .env .lost) ≡ schedulerOf (y .game) marks (σ .env .lost) =
     p .scheduler ∙ ap (λ (τ : Scheduler). withCurrent τ nothingPresent) (sym lasts) ∙ sym (q .scheduler)
-    ∙ ap (schedulerOf (y .game)) same in
+    ∙ ap (λ (τ : Scheduler). schedulerOf (y .game) (τ .env .marks) (τ .env .lost)) lasts in
     let positions : (r : ℕ) → r < routinesOf book → positionOf (routineAt (x .game) r) ≡ positionOf (routineAt (y .game) r) =
     λ r l. left-once (p .positions r l) (q .positions r l) (ap (lastOf r) (sym logs)) in
-    let game = same-game book (x .game) (y .game) marks (p .fits) (q .fits) schedulers positions in
+    let game = same-game book (x .game) (y .game) marks (σ .env .lost) (p .fits) (q .fits) schedulers positions in
     let verdict = p .verdict ∙ sym (q .verdict) in
     let passes = p .passes ∙ ap (λ (l : Log). length l) (sym logs) ∙ sym (q .passes) in
     let counted = p .markCount ∙ sym (rw same at (q .markCount)) in
+    let lost = p .lost ∙ sym (q .lost ∙ cut) in
     let buffer =
     same-buffer marks (x .buffer) (y .buffer) buffer (p .buffered) (subst (λ (ms : Marks). Buffered ms (y .buffer)) same (q .buffered))
     (p .beyond) (rw same at (q .beyond)) in
-    λ i. record { verdict = verdict i; game = game i; passes = passes i; marks = counted i; buffer = buffer i }
+    λ i. record { verdict = verdict i; game = game i; passes = passes i; marks = counted i; lost = lost i; buffer = buffer i }
 
 -- so it is the definition's
 pub only-answer : (book : List ℕ) (g : Game) (buffer : List ℤ) (x : Answer) → ByTheRules book g buffer x → x ≡ answer book g buffer

@@ -67,7 +67,8 @@ module _ {l m : Line} {routines : ℕ} (p : SizedRight routines l) (q : SizedRig
       λ i. record { items = items i; len = same-len i }
 
 module _
-    (book : List ℕ) (h k : Game) (ms : List (ℕ × ℤ)) (f : Fits book h) (g : Fits book k) (e : schedulerOf h ms ≡ schedulerOf k ms)
+    (book : List ℕ) (h k : Game) (ms : List (ℕ × ℤ)) (lost : ℕ) (f : Fits book h) (g : Fits book k)
+    (e : schedulerOf h ms lost ≡ schedulerOf k ms lost)
     (p : (r : ℕ) → r < routinesOf book → positionOf (routineAt h r) ≡ positionOf (routineAt k r)) where
   -- a list of the scheduler has the same of each routine
   same-of :

@@ -62,11 +62,11 @@ module _ (book : List ℕ) (a : Accepted book) where
     pub lentFits : Fits book g
     pub longEnough : spaceFor book ≤ length buffer
     pub verdict : answer .verdict ≡ accepted
-    -- the round begins with the threads and the scheduler of the game, and no mark
-    pub derived : Round log (threadsOf g) (schedulerOf g []) run σ
+    -- the round begins with the threads and the scheduler of the game, no mark, and nothing cut off
+    pub derived : Round log (threadsOf g) (schedulerOf g [] 0) run σ
     pub passes : answer .passes ≡ length log
     -- The game given back has the scheduler that the rules lead to; "Signals and numbers of a round are not kept in the game."
-    pub scheduler : schedulerOf (answer .game) (σ .env .marks) ≡ withCurrent σ nothingPresent
+    pub scheduler : schedulerOf (answer .game) (σ .env .marks) (σ .env .lost) ≡ withCurrent σ nothingPresent
     -- place, begun and count left of each routine
     pub positions :
         (r : ℕ) → r < routinesOf book →
@@ -76,6 +76,8 @@ module _ (book : List ℕ) (a : Accepted book) where
     -- what of the game the rules don't speak of: R, E and C, and nothing beyond them or behind a list
     pub fits : Fits book (answer .game)
     pub markCount : answer .marks ≡ length (σ .env .marks)
+    -- document 02: "the total of these over all additions of the round"
+    pub lost : answer .lost ≡ σ .env .lost
     -- "writes a mark: routine, n", "two to a mark", "in the order made": the routine and the number of the i-th mark, i counted from 0, are
     -- the buffer's numbers at 2 i and 2 i + 1
     pub buffered :

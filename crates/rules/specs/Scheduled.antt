@@ -1,4 +1,5 @@
--- The scheduler that a game stands for, and a state of a round; a routine's position is not in it, and the marks made are beside it.
+-- The scheduler that a game stands for, and a state of a round; a routine's position is not in it, and beside it are the marks made and,
+-- between two rounds, what the additions have cut off.
 use Prim.Native.Nat.{ℕ}
 use mathlib.Core.Bool.{false}
 use mathlib.Core.List.{List, [], map}
@@ -26,8 +27,8 @@ abbrev pub nothingPresent : Current
 nothingPresent = record { signals = []; terms = []; values = []; eoi = false; move = false }
 
 -- between two rounds
-abbrev pub schedulerOf : Game → List (ℕ × ℤ) → Scheduler
-schedulerOf g marks =
+abbrev pub schedulerOf : Game → List (ℕ × ℤ) → ℕ → Scheduler
+schedulerOf g marks lost =
     record {
       actual = entriesOf (g .listed);
       current = nothingPresent;
@@ -40,12 +41,12 @@ schedulerOf g marks =
             toResume = map (λ x. x .resuming) (g .routines);
           };
       threads = record { status = map (λ x. stageOf (x .stage)) (g .routines); susp = map (λ x. x .suspended) (g .routines) };
-      env = record { counters = g .counters; marks = marks };
+      env = record { counters = g .counters; marks = marks; lost = lost };
     }
 
 -- within a round
 unfoldable pub schedulerIn : State → List (ℕ × ℤ) → Scheduler
 schedulerIn s marks =
-    withCurrent (schedulerOf (s .game) marks) (
+    withCurrent (schedulerOf (s .game) marks (s .lost)) (
     record { signals = s .present; terms = s .endSignals; values = s .numbers; eoi = s .eoi; move = s .moved }
     )

@@ -1,6 +1,6 @@
 -- Sections 2.1 and 2.3 of the paper: schedulers, with their threads and the environment, and what the rules change in them.
 -- A set of events or threads is a list of flags, one for each number there can be; a vector is a list.
-use Prim.Native.Nat.{ℕ, _-_}
+use Prim.Native.Nat.{ℕ, _+_, _-_}
 use mathlib.Core.Bool.{Bool, true, false, _&&_, _||_, not}
 use mathlib.Core.List.{List, [], _∷_, _++_}
 use lib.Dec.{eqb}
@@ -41,10 +41,11 @@ pub record Orders : Type 0 where
   pub toSuspend : List Bool
   pub toResume : List Bool
 
--- the counters, and the marks made
+-- the counters, the marks made, and what the additions have cut off, all together
 pub record Environment : Type 0 where
   pub counters : List ℤ
   pub marks : List (ℕ × ℤ)
+  pub lost : ℕ
 
 pub record Scheduler : Type 0 where
   pub actual : List ℕ
@@ -148,21 +149,26 @@ content σ c = getD (σ .env .counters) c (pos 0)
 
 -- a counter with another content
 abbrev pub put : ℕ → ℤ → Scheduler → Scheduler
-put c v σ = withEnv σ (record { counters = set (σ .env .counters) c v; marks = σ .env .marks })
+put c v σ = withEnv σ (record { counters = set (σ .env .counters) c v; marks = σ .env .marks; lost = σ .env .lost })
 
 -- one more mark
 abbrev pub withMark : ℕ → ℤ → Scheduler → Scheduler
-withMark r n σ = withEnv σ (record { counters = σ .env .counters; marks = σ .env .marks ++ ((r, n) ∷ []) })
+withMark r n σ = withEnv σ (record { counters = σ .env .counters; marks = σ .env .marks ++ ((r, n) ∷ []); lost = σ .env .lost })
 
--- env and env′ of rule 1, for each call
+-- so much more cut off
+abbrev pub withLoss : ℕ → Scheduler → Scheduler
+withLoss k σ = withEnv σ (record { counters = σ .env .counters; marks = σ .env .marks; lost = σ .env .lost + k })
+
+-- env and env′ of rule 1, for each call; document 02: an addition "tells, besides its sum, the distance between the true sum and the one
+-- given", and "the total of these" is kept
 pub data Called : Call → Scheduler → Scheduler → Type 0 where
   -- "writes a mark: routine, n"
   writes : {r : ℕ} {n : ℤ} {σ : Scheduler} → Called (mark r n) σ (withMark r n σ)
   -- "counter becomes n; n is added"
   becomes : {c : ℕ} {n : ℤ} {σ : Scheduler} → Called (set-to c n) σ (put c n σ)
-  adds : {c : ℕ} {n v : ℤ} {σ : Scheduler} → AddsUp (content σ c) n v → Called (add c n) σ (put c v σ)
+  adds : {c k : ℕ} {n v : ℤ} {σ : Scheduler} → AddsUp (content σ c) n v k → Called (add c n) σ (withLoss k (put c v σ))
   -- "b's content is added to a"
-  takes : {c d : ℕ} {v : ℤ} {σ : Scheduler} → AddsUp (content σ c) (content σ d) v → Called (take c d) σ (put c v σ)
+  takes : {c d k : ℕ} {v : ℤ} {σ : Scheduler} → AddsUp (content σ c) (content σ d) v k → Called (take c d) σ (withLoss k (put c v σ))
 
 -- env′ of rule 30, "transformed by the return of the value": "the k-th number goes to b"
 abbrev pub returned : ℕ → ℕ → ℕ → Scheduler → Scheduler

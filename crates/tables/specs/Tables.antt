@@ -123,6 +123,7 @@ stateOf g counters flags fields given tally eoi =
       present = lastRow presentRow flags;
       endSignals = rowAt endsRow flags;
       numbers = take (tally .given) (pairsOf given);
+      lost = tally .lost;
       moved = eqb (tally .moved) 1;
       eoi = eoi;
     }

@@ -49,11 +49,13 @@ pub const STARTING: usize = 3 * MOST_ROUTINES;
 
 pub const FIELDS: usize = 3 * MOST_ROUTINES + MOST_ENTRIES;
 
-// What the steps of a round have counted: those to start, the numbers given and the marks; and whether the pass has had a move, 1 or 0.
+// What the steps of a round have counted: those to start, the numbers given, the marks and what additions have cut off; and whether the
+// pass has had a move, 1 or 0.
 pub struct Tally {
     pub starting: usize,
     pub given: usize,
     pub marks: usize,
+    pub lost: usize,
     pub moved: usize,
 }
 

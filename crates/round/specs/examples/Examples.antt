@@ -73,7 +73,7 @@ refusedWith book g buffer number =
       book = book;
       game = g;
       buffer = buffer;
-      answer = record { verdict = refused number 0; game = g; passes = 0; marks = 0; buffer = buffer };
+      answer = record { verdict = refused number 0; game = g; passes = 0; marks = 0; lost = 0; buffer = buffer };
     }
 
 -- an empty book is told before all else, an endless while before a game that does not fit, and that before a short buffer; one mark step

@@ -30,10 +30,12 @@ use Rattle.round.specs.Ticks.{fresh, begunAt, waitsFor, tickOf, tick, ef
 use Rattle.round.specs.Rounds.{ticks, allDone, turn, pass, instant, PlayedRound, round}
 use Rattle.round.specs.Answers.{marksIn}
 
--- what is seen of a round: its passes, its marks, each a routine and a number, and behind it the routines and the counters of the book
+-- what is seen of a round: its passes, its marks, each a routine and a number, what was cut off, and behind it the routines and the
+-- counters of the book
 pub record OpsSeen : Type 0 where
   pub passes : ℕ
   pub marks : List (ℕ × ℤ)
+  pub lost : ℕ
   pub routines : List Routine
   pub counters : List ℤ
 
@@ -53,6 +55,7 @@ opsSeen p =
     record {
       passes = p .passes;
       marks = marksIn (p .played .trace);
+      lost = p .played .state .lost;
       routines = list.take (g .counts .routines) (g .routines);
       counters = list.take (g .counts .counters) (g .counters);
     }
@@ -69,10 +72,14 @@ doneFrom book (order kind n ∷ others) g = order kind n ∷ doneFrom book other
 abbrev pub carriedOut : OpsRow → OpsRow
 carriedOut row = record { book = row .book; done = doneFrom (row .book) (row .done) (setUp (row .book) blankGame .game) }
 
--- a round of so many passes, with these marks, that leaves these routines and counters
+-- a round that cuts so much off, of so many passes, with these marks, that leaves these routines and counters; and one that cuts off
+-- nothing
+abbrev pub cutsOff : ℕ → ℕ → List (ℕ × ℤ) → List Routine → List ℤ → OpsCall
+cutsOff lost passes marks routines counters =
+    played (record { passes = passes; marks = marks; lost = lost; routines = routines; counters = counters })
+
 abbrev pub gives : ℕ → List (ℕ × ℤ) → List Routine → List ℤ → OpsCall
-gives passes marks routines counters =
-    played (record { passes = passes; marks = marks; routines = routines; counters = counters })
+gives = cutsOff 0
 
 -- a routine in this stage at this place, not suspended and in no set; one that rests on its timed step with this count left
 abbrev pub at : ℕ → ℕ → Routine
@@ -102,7 +109,26 @@ counting =
           ∷ [])
           ∷ []
           );
-      done = gives 1 ((0, minus 4) ∷ []) (at ended 9 ∷ []) (minus 3 ∷ pos 7 ∷ pos 1000000 ∷ minus 1000000 ∷ []) ∷ [];
+      done = cutsOff 3 1 ((0, minus 4) ∷ []) (at ended 9 ∷ []) (minus 3 ∷ pos 7 ∷ pos 1000000 ∷ minus 1000000 ∷ []) ∷ [];
+    }
+
+-- Document 02: "The addition itself now tells, besides its sum, the distance between the true sum and the one given. The round's answer
+-- carries the total of these over all additions of the round". In round 2 routine 0 adds 5 to 999,998 and routine 1 takes −4 from
+-- −1,000,000 and from a sum in range; round 1 cuts off nothing, and round 3 as much as two additions to an end do.
+abbrev pub cutting : OpsRow
+cutting =
+    record {
+      book =
+          book 0 3 (
+          (start 1 ∷ set 0 (pos 999998) ∷ rest ∷ add 0 (pos 5) ∷ rest ∷ add 0 (pos 1000000) ∷ add 0 (pos 7) ∷ [])
+          ∷ (set 1 (minus 1000000) ∷ set 2 (minus 4) ∷ take 1 2 ∷ take 2 2 ∷ [])
+          ∷ []
+          );
+      done =
+          cutsOff 0 1 [] (at rested 3 ∷ at notStarted 0 ∷ []) (pos 999998 ∷ pos 0 ∷ pos 0 ∷ [])
+          ∷ cutsOff 7 1 [] (at rested 5 ∷ at ended 4 ∷ []) (pos 1000000 ∷ minus 1000000 ∷ minus 8 ∷ [])
+          ∷ cutsOff 1000007 1 [] (at ended 7 ∷ at ended 4 ∷ []) (pos 1000000 ∷ minus 1000000 ∷ minus 8 ∷ [])
+          ∷ [];
     }
 
 -- "5 signal with number .. rule 13, with b's content", "12 read .. rules 30 to 32; the k-th number goes to b": signal 0 gets the numbers
@@ -313,7 +339,7 @@ looping =
 
 abbrev pub opsTable : List OpsRow
 opsTable =
-    counting ∷ reading ∷ waiting ∷ waitingFor ∷ resting ∷ joining ∷ joiningStopped ∷ bySteps ∷ byOrders ∷ testing ∷ looping ∷ []
+    counting ∷ cutting ∷ reading ∷ waiting ∷ waitingFor ∷ resting ∷ joining ∷ joiningStopped ∷ bySteps ∷ byOrders ∷ testing ∷ looping ∷ []
 
 pub as-played : map carriedOut opsTable ≡ opsTable
 unfolding doneFrom obeyed marksIn sumBelow round instant pass turn allDone ticks effectOn tick tickOf waitsFor fromEnd openingBefore

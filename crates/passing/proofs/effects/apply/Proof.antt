@@ -21,6 +21,13 @@ put-counter-requires c κs = rw (c .before .before .effect2 .given .1) at (c .be
 put-counter-requires-2 : tie.Need-put-counter-requires-2
 put-counter-requires-2 c κs = rw (c .before .before .before .effect3 .given .1) at (c .before .before .before .before .before .pre .1 .0)
 
+-- and leaves room for what it cuts off
+add-tally : tie.Need-add-tally
+add-tally c =
+    let events = c .before .before .before .before .before .before in
+    let room = rw (events .effect3 .given .1) at (events .before .before .pre .1 .1) in
+    record { fits = omega (arith, room) }
+
 put-present-requires : tie.Need-put-present-requires
 put-present-requires c κs = rw (c .before .before .effect4 .given .1) at (c .before .before .before .before .pre .1 .0)
 
@@ -67,10 +74,14 @@ returns-3 c =
 returns-4 : tie.Need-returns-4
 unfolding marksPut
 returns-4 c =
-    let events = c .before .before .before .before in
+    let events = c .before .before .before .before .before .before in
     let e = events .effect3 .given .1 in
     let fits : SFits w32 (events .effect3 .given .0 .1 .0 .sum) = search needs in
-    (λ g eoi. rw (e, c .put-counter2 .ensures, toZ-ofZ fits) (add-held g _ _ _ _ _ eoi _ _), (events .before .before .pre .0, rw e))
+    let whole = events .before .before .pre .0 in
+    let put = c .before .before .put-counter2 .ensures in (
+      λ g eoi. rw (e, put, toZ-ofZ fits) (add-held g _ _ _ _ _ eoi _ _),
+      (still-whole whole refl refl (whole .startingFits) (whole .givenFits), rw e),
+    )
 
 returns-5 : tie.Need-returns-5
 unfolding marksPut
@@ -146,6 +157,8 @@ apply-spec =
     put-counter-requires
     (λ c. search needs)
     put-counter-requires-2
+    (λ c. search needs)
+    add-tally
     (λ c. search needs)
     put-present-requires
     (λ c. search needs)
