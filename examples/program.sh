@@ -1,7 +1,8 @@
 #!/bin/sh
 # program.sh NAME: builds the program NAME of crates/ if it is not there or older than a source, and prints where it is.
 set -e
-root=$(cd "$(dirname "$0")/.." && pwd)
+[ -n "$1" ] || { echo "usage: program.sh NAME" >&2; exit 2; }
+root=$(CDPATH= cd -- "$(dirname "$0")/.." && pwd)
 program=$root/target/bin/$1
 if [ ! -x "$program" ] || [ -n "$(find "$root/crates" "$root/crates.txt" -newer "$program")" ]; then
     mkdir -p "$root/target"

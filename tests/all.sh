@@ -11,7 +11,9 @@ tests/round_model.py tests/papers.in tests/papers.out
 tests/listings.py
 lost=$(examples/cut_off.sh examples/hoard.book | tr '\n' ';')
 echo "hoard.book: $lost"
-[ "$lost" = "round 1 cut off 0;round 2 cut off 0;round 3 cut off 200000;round 4 cut off 400000;round 5 cut off 0;in all 600000;" ]
+expected="round 1 cut off 0;round 2 cut off 0;round 3 cut off 200000;round 4 cut off 400000;round 5 cut off 0;in all 600000;"
+[ "$lost" = "$expected" ] || { echo "expected: $expected"; exit 1; }
+[ "$(examples/cut_off.sh examples/endless.book || true)" = "refused 7 1" ] || { echo "endless.book is not refused"; exit 1; }
 examples/build.sh
 told() {
     status=0

@@ -1,11 +1,11 @@
 //! Holds the library's set-ups, orders, rounds and stored games to the plain ones on random plays.
 
 use crate::compare_stores::Stores;
-use crate::game::{Game, Played, MOST_STEPS};
+use crate::game::{Game, Played, LIMIT, MOST_STEPS};
 use crate::random::Random;
 use crate::random_books::{damage, random_book};
 use crate::random_plays::{displace, poke, random_order};
-use crate::steps::{bare, MARK, SIGNAL_NUMBER};
+use crate::steps::{bare, step, Step, ADD, MARK, SIGNAL_NUMBER, TAKE};
 use crate::{books, library, plain};
 
 const RANDOM_PLAYS: usize = 100_000;
@@ -43,6 +43,9 @@ struct Tally {
     numbers: [usize; 12],
     passes: usize,
     marks: usize,
+    /// How many calls cut something off, and the most that one of them did.
+    cut: usize,
+    most_lost: usize,
     differ: usize,
 }
 
@@ -53,6 +56,8 @@ impl Tally {
             numbers: [0; 12],
             passes: 0,
             marks: 0,
+            cut: 0,
+            most_lost: 0,
             differ: 0,
         }
     }
@@ -70,9 +75,10 @@ impl Tally {
                     verdict,
                     passes,
                     marks,
+                    lost,
                     ..
                 } = played;
-                format!("{verdict}, {passes} passes, {marks} marks")
+                format!("{verdict}, {passes} passes, {marks} marks, {lost} cut off")
             };
             println!(
                 "{}, {}, {call_name}: {}",
@@ -95,6 +101,8 @@ impl Tally {
         self.numbers[played.verdict.number as usize] += 1;
         self.passes += played.passes;
         self.marks += played.marks;
+        self.cut += usize::from(played.lost > 0);
+        self.most_lost = self.most_lost.max(played.lost);
         expected
     }
 
@@ -217,17 +225,28 @@ fn random_play(tallies: &mut Tallies, play: usize) {
     }
 }
 
-/// A round of a book of nothing but marks, and of one of nothing but numbers given, the longest that there are among them.
+/// A round of nothing but one step, so many times.
+fn full_play(rounds: &mut Tally, only: Step, count: usize, counter: i32) {
+    let book = books::book(&[vec![only; count]], 1, 1);
+    let mut game = Game::set_up(plain::counts(&book));
+    game.counters[0] = counter;
+    rounds.round(&Case {
+        name: &format!("{count} steps of op {}, counter {counter}", only[0]),
+        game,
+        buffer: vec![-1; 2 * plain::mark_steps(&book) + BEHIND],
+        book,
+    });
+}
+
+/// Rounds of nothing but marks, nothing but numbers given, and nothing but additions to a counter that is at an end, of which each cuts off
+/// all that it adds; the longest books that there are among them.
 fn full_plays(rounds: &mut Tally) {
     for count in [63, 64, 65, 255, 256, 257, MOST_STEPS] {
-        for op in [MARK, SIGNAL_NUMBER] {
-            let book = books::book(&[vec![bare(op); count]], 1, 1);
-            rounds.round(&Case {
-                name: &format!("{count} steps of op {op}"),
-                game: Game::set_up(plain::counts(&book)),
-                buffer: vec![-1; 2 * plain::mark_steps(&book) + BEHIND],
-                book,
-            });
+        full_play(rounds, bare(MARK), count, 0);
+        full_play(rounds, bare(SIGNAL_NUMBER), count, 0);
+        for end in [-LIMIT, LIMIT] {
+            full_play(rounds, step(ADD, 0, 0, end), count, end);
+            full_play(rounds, step(TAKE, 0, 0, 0), count, end);
         }
     }
 }
@@ -244,7 +263,9 @@ pub fn compare_plays() -> bool {
         random_play(&mut tallies, play);
     }
     full_plays(&mut tallies.rounds);
-    println!("{RANDOM_PLAYS} random plays, and rounds of nothing but marks or numbers given");
+    println!(
+        "{RANDOM_PLAYS} random plays, and rounds of nothing but marks, numbers given or additions"
+    );
     let Tallies {
         set_ups,
         orders,
@@ -259,5 +280,13 @@ pub fn compare_plays() -> bool {
         "accepted: {} rounds with {} passes and {} marks",
         rounds.numbers[0], rounds.passes, rounds.marks
     );
-    set_ups_right && orders_right && rounds_right && stores_right
+    println!(
+        "{} of them cut something off, {} at most",
+        rounds.cut, rounds.most_lost
+    );
+    let cut_seen = rounds.cut >= 100;
+    if !cut_seen {
+        println!("fewer than 100 rounds cut something off");
+    }
+    set_ups_right && orders_right && rounds_right && stores_right && cut_seen
 }

@@ -119,7 +119,8 @@ pub struct Stored {
     pub length: usize,
 }
 
-/// What playing a round answers: after a refusal the game is the lent one, and passes and marks are 0.
+/// What playing a round answers, with how much its additions cut off: after a refusal the game is the lent one, and passes, marks and what
+/// was cut off are 0.
 #[repr(C)]
 #[derive(Clone, Copy, PartialEq, Eq, Debug)]
 pub struct Played {
@@ -127,9 +128,10 @@ pub struct Played {
     pub game: Game,
     pub passes: usize,
     pub marks: usize,
+    pub lost: usize,
 }
 
-/// Set-up and an order answer as a round does that takes no passes and makes no marks.
+/// Set-up and an order answer as a round does that takes no passes, makes no marks and cuts off nothing.
 impl From<Outcome> for Played {
     fn from(Outcome { verdict, game }: Outcome) -> Played {
         Played {
@@ -137,6 +139,7 @@ impl From<Outcome> for Played {
             game,
             passes: 0,
             marks: 0,
+            lost: 0,
         }
     }
 }

@@ -13,7 +13,7 @@ use crate::verdict::{UnstartedNames, Verdict};
 pub use fitting::timed_count;
 use orders::obey;
 pub use orders::{nameable, KINDS};
-use round::play_round;
+use round::{play_round, Totals};
 
 const HEADER: usize = 12;
 const ENTRY: usize = 4;
@@ -185,29 +185,30 @@ fn check_round(book: &[u8], game: &Game, room: usize) -> Check {
     Ok(())
 }
 
-/// Plays a round, after the checks.
-#[inline(never)]
-pub fn play(book: &[u8], mut game: Game, marks: &mut [i32]) -> Played {
-    let (verdict, (passes, marks)) = match check_round(book, &game, marks.len()) {
-        Ok(()) => (Verdict::ACCEPTED, play_round(book, &mut game, marks)),
-        Err(verdict) => (verdict, (0, 0)),
-    };
+#[inline(always)]
+fn played(verdict: Verdict, game: Game, totals: Totals) -> Played {
     Played {
         verdict,
         game,
-        passes,
-        marks,
+        passes: totals.passes,
+        marks: totals.marks,
+        lost: totals.lost,
     }
+}
+
+/// Plays a round, after the checks.
+#[inline(never)]
+pub fn play(book: &[u8], mut game: Game, marks: &mut [i32]) -> Played {
+    let (verdict, totals) = match check_round(book, &game, marks.len()) {
+        Ok(()) => (Verdict::ACCEPTED, play_round(book, &mut game, marks)),
+        Err(verdict) => (verdict, Totals::default()),
+    };
+    played(verdict, game, totals)
 }
 
 /// Plays a round without the checks: the book is accepted, the game fits it, and there is room for the marks.
 #[inline(never)]
 pub fn round(book: &[u8], mut game: Game, marks: &mut [i32]) -> Played {
-    let (passes, marks) = play_round(book, &mut game, marks);
-    Played {
-        verdict: Verdict::ACCEPTED,
-        game,
-        passes,
-        marks,
-    }
+    let totals = play_round(book, &mut game, marks);
+    played(Verdict::ACCEPTED, game, totals)
 }

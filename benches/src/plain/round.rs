@@ -62,8 +62,17 @@ struct Round<'a> {
     numbers: Vec<(usize, i32)>,
     marks: &'a mut [[i32; 2]],
     marks_made: usize,
+    lost: usize,
     moved: bool,
     eoi: bool,
+}
+
+/// What a round came to: the passes it took, the marks it made, and how much its additions cut off.
+#[derive(Default)]
+pub struct Totals {
+    pub passes: usize,
+    pub marks: usize,
+    pub lost: usize,
 }
 
 /// The place behind the marker that ends the block of the if, else or while at `place`.
@@ -103,10 +112,6 @@ fn holds(value: i32, relation: usize, n: i32) -> bool {
     }
 }
 
-fn sum(one: i32, other: i32) -> i32 {
-    (one + other).clamp(-LIMIT, LIMIT)
-}
-
 impl<'a> Round<'a> {
     /// The eight actions of section 5.4.
     fn begin(book: &'a [u8], game: &'a mut Game, marks: &'a mut [i32]) -> Round<'a> {
@@ -143,6 +148,7 @@ impl<'a> Round<'a> {
             numbers: Vec::new(),
             marks: marks.as_chunks_mut().0,
             marks_made: 0,
+            lost: 0,
             moved: false,
             eoi: false,
         }
@@ -151,6 +157,14 @@ impl<'a> Round<'a> {
     fn mark(&mut self, routine: usize, n: i32) {
         self.marks[self.marks_made] = [routine as i32, n];
         self.marks_made += 1;
+    }
+
+    /// Adds to a counter, which stays between its ends, and counts how far the true sum lies beyond them.
+    fn add(&mut self, counter: usize, n: i32) {
+        let sum = self.game.counters[counter] + n;
+        let kept = sum.clamp(-LIMIT, LIMIT);
+        self.game.counters[counter] = kept;
+        self.lost += sum.abs_diff(kept) as usize;
     }
 
     fn signal(&mut self, signal: usize) {
@@ -195,8 +209,8 @@ impl<'a> Round<'a> {
         match step[0] {
             MARK => self.mark(routine, n),
             SET => self.game.counters[a] = n,
-            ADD => self.game.counters[a] = sum(self.game.counters[a], n),
-            TAKE => self.game.counters[a] = sum(self.game.counters[a], self.game.counters[b]),
+            ADD => self.add(a, n),
+            TAKE => self.add(a, self.game.counters[b]),
             SIGNAL => self.signal(a),
             SIGNAL_NUMBER => {
                 self.signal(a);
@@ -281,9 +295,13 @@ impl<'a> Round<'a> {
     }
 }
 
-/// Plays a round on a game that fits an accepted book, with room for its marks: how many passes it took, and how many marks it made.
+/// Plays a round on a game that fits an accepted book, with room for its marks.
 #[inline(always)]
-pub fn play_round(book: &[u8], game: &mut Game, marks: &mut [i32]) -> (usize, usize) {
+pub fn play_round(book: &[u8], game: &mut Game, marks: &mut [i32]) -> Totals {
     let mut round = Round::begin(book, game, marks);
-    (round.passes(), round.marks_made)
+    Totals {
+        passes: round.passes(),
+        marks: round.marks_made,
+        lost: round.lost,
+    }
 }

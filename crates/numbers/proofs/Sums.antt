@@ -1,6 +1,6 @@
 -- The computed sum and what it cuts off are those that the documents' sentences give, and no other numbers are. By the two tests that the
 -- computation makes, each read as the order that it tests; a number beyond an end lies as far beyond it as their difference says.
-use Prim.Native.Nat.{ℕ, suc, _+_, _≤_}
+use Prim.Native.Nat.{ℕ, suc, _+_, _*_, _≤_}
 use mathlib.Core.Path.{_≡_, refl, sym, ap, _∙_}
 use mathlib.Core.Bool.{Bool, true, false}
 use native.Mathlib.Omega.{arith}
@@ -9,28 +9,34 @@ use lib.Dec.{T, ltb, leb→le}
 use lib.IntN.{ℤ, pos, negsuc, natAbs, subℕ, _+ℤ_, _-ℤ_, +ℤ-comm, -ℤ-+ℤ-cancel, +ℤ-negℤ-cancel}
 use lib.Signed.{ltZ, nonNeg, pos-natAbs, _≤ℤ_, _<ℤ_, ltZ-yes, ltZ-no, clashℤ}
 use Rattle.numbers.specs.declared.Sum.{Sum}
-use Rattle.numbers.specs.Choice.{if_then_else_}
 use Rattle.numbers.specs.Numbers.{lowestCounter, highestCounter, CounterInRange, sumOf}
 use Rattle.numbers.specs.Sums.{AddsUp, within, above, below}
 use Rattle.numbers.proofs.Tests.{clash, by-test, by-flag}
 
+-- how far the ends of a counter lie from 0; one addition cuts off no more, where both numbers are in a counter's range
+abbrev farthest : ℕ
+farthest = natAbs highestCounter
+
+abbrev pub mostLostByOne : ℕ
+mostLostByOne = farthest
+
 -- what lies beyond an end
 pub over : (z : ℤ) → ltZ highestCounter z ≡ true → T (nonNeg (z -ℤ highestCounter))
-over (pos m) h = simp (le-ltb m 1000000 (omega (arith, ltb-true 1000000 m h))) tt
+over (pos m) h = simp (le-ltb m farthest (omega (arith, ltb-true farthest m h))) tt
 over (negsuc m) h = clash h refl
 
 pub under : (z : ℤ) → ltZ z lowestCounter ≡ true → T (nonNeg (lowestCounter -ℤ z))
 under (pos m) h = clash h refl
-under (negsuc m) h = simp (le-ltb (suc m) 1000000 (omega (arith, ltb-true 999999 m h))) tt
+under (negsuc m) h = simp (le-ltb (suc m) farthest (omega (arith, ltb-true 999999 m h))) tt
 
 -- and how far, if it lies no farther than k from 0
-pub over-by : (z : ℤ) (k : ℕ) → ltZ highestCounter z ≡ true → natAbs z ≤ k → natAbs (z -ℤ highestCounter) + 1000000 ≤ k
-over-by (pos m) k h near = let far = ltb-true 1000000 m h in simp (le-ltb m 1000000 (omega arith)) (omega arith)
+pub over-by : (z : ℤ) (k : ℕ) → ltZ highestCounter z ≡ true → natAbs z ≤ k → natAbs (z -ℤ highestCounter) + farthest ≤ k
+over-by (pos m) k h near = let beyond = ltb-true farthest m h in simp (le-ltb m farthest (omega arith)) (omega arith)
 over-by (negsuc m) k h near = clash h refl
 
-pub under-by : (z : ℤ) (k : ℕ) → ltZ z lowestCounter ≡ true → natAbs z ≤ k → natAbs (lowestCounter -ℤ z) + 1000000 ≤ k
+pub under-by : (z : ℤ) (k : ℕ) → ltZ z lowestCounter ≡ true → natAbs z ≤ k → natAbs (lowestCounter -ℤ z) + farthest ≤ k
 under-by (pos m) k h near = clash h refl
-under-by (negsuc m) k h near = let far = ltb-true 999999 m h in simp (le-ltb (suc m) 1000000 (omega arith)) (omega arith)
+under-by (negsuc m) k h near = let beyond = ltb-true 999999 m h in simp (le-ltb (suc m) farthest (omega arith)) (omega arith)
 
 -- a lies as far beyond b as their difference says, and no other number is that far
 far : (a b : ℤ) → T (nonNeg (a -ℤ b)) → b +ℤ pos (natAbs (a -ℤ b)) ≡ a
@@ -46,20 +52,15 @@ passes e = ltZ-yes (rw e tt)
 fails : {a b : ℤ} → ltZ a b ≡ false → b ≤ℤ a
 fails e = ltZ-no (rw e tt)
 
-adds :
-    (v n : ℤ) (high low : Bool) → ltZ highestCounter (v +ℤ n) ≡ high → ltZ (v +ℤ n) lowestCounter ≡ low →
-    let s : Sum =
-    if high then record { sum = highestCounter; lost = natAbs (v +ℤ n -ℤ highestCounter) }
-    else if low then record { sum = lowestCounter; lost = natAbs (lowestCounter -ℤ (v +ℤ n)) }
-    else record { sum = v +ℤ n; lost = 0 }
-    in
-    AddsUp v n (s .sum) (s .lost)
-adds v n true low h l = above (passes h) (far (v +ℤ n) highestCounter (over (v +ℤ n) h))
-adds v n false true h l = below (passes l) (far lowestCounter (v +ℤ n) (under (v +ℤ n) l))
-adds v n false false h l = within (fails l, fails h)
-
 pub adds-up : (v n : ℤ) → AddsUp v n (sumOf v n .sum) (sumOf v n .lost)
-adds-up v n = adds v n (ltZ highestCounter (v +ℤ n)) (ltZ (v +ℤ n) lowestCounter) refl refl
+adds-up v n =
+    let z = v +ℤ n in
+    by-test (λ (s : Sum). AddsUp v n (s .sum) (s .lost)) (ltZ highestCounter z)
+    (λ high. above (passes high) (far z highestCounter (over z high)))
+    (λ low.
+    by-test (λ (s : Sum). AddsUp v n (s .sum) (s .lost)) (ltZ z lowestCounter)
+    (λ under-lowest. below (passes under-lowest) (far lowestCounter z (under z under-lowest)))
+    (λ inside. within (fails inside, fails low)))
 
 is-less : {a b : ℤ} (t : Bool) → ltZ a b ≡ t → a <ℤ b → t ≡ true
 is-less true e h = refl
@@ -86,12 +87,8 @@ adds-up-once {v} {n} {k = k} (below lo e) =
     let low = is-less (ltZ (v +ℤ n) lowestCounter) refl lo in
     (rw (high, low), rw (high, low) (far-once lowestCounter (v +ℤ n) k e))
 
--- what one addition cuts off, at the most, where both numbers are in a counter's range
-abbrev pub mostLostByOne : ℕ
-mostLostByOne = 1000000
-
-range-near : (v : ℤ) → CounterInRange v → natAbs v ≤ 1000000
-range-near (pos a) h = leb→le a 1000000 (h .1 .le)
+range-near : (v : ℤ) → CounterInRange v → natAbs v ≤ farthest
+range-near (pos a) h = leb→le a farthest (h .1 .le)
 range-near (negsuc a) h = omega (arith, leb→le a 999999 (h .0 .le))
 
 difference-near : (a b : ℕ) → natAbs (subℕ a b) ≤ a + b
@@ -106,8 +103,8 @@ sum-near (negsuc a) (negsuc b) = omega arith
 pub lost-by-one : (v n : ℤ) → CounterInRange v → CounterInRange n → sumOf v n .lost ≤ mostLostByOne
 lost-by-one v n h k =
     let z = v +ℤ n in
-    let near : natAbs z ≤ 2000000 = omega (arith, sum-near v n, range-near v h, range-near n k) in
-    by-test (λ (s : Sum). s .lost ≤ mostLostByOne) (ltZ highestCounter z) (λ e. omega (arith, over-by z 2000000 e near))
+    let near : natAbs z ≤ 2 * farthest = omega (arith, sum-near v n, range-near v h, range-near n k) in
+    by-test (λ (s : Sum). s .lost ≤ mostLostByOne) (ltZ highestCounter z) (λ e. omega (arith, over-by z (2 * farthest) e near))
     (λ low.
-    by-test (λ (s : Sum). s .lost ≤ mostLostByOne) (ltZ z lowestCounter) (λ e. omega (arith, under-by z 2000000 e near))
+    by-test (λ (s : Sum). s .lost ≤ mostLostByOne) (ltZ z lowestCounter) (λ e. omega (arith, under-by z (2 * farthest) e near))
     (λ inside. omega arith))

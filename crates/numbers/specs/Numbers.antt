@@ -58,7 +58,8 @@ CounterInRange v = (lowestCounter ≤ℤ v) × (v ≤ℤ highestCounter)
 abbrev pub isWithin : ℤ → ℤ → ℤ → Bool
 isWithin n low high = leZ low n && leZ n high
 
--- "An addition beyond an end gives that end." Document 02: it "tells, besides its sum, the distance between the true sum and the one given".
+-- "An addition beyond an end gives that end." Document 02: it "tells, besides its sum, the distance between the true sum and the one
+-- given".
 abbrev pub sumOf : ℤ → ℤ → Sum
 sumOf v n =
     let sum = v +ℤ n in

@@ -5,7 +5,8 @@ use lib.IntN.{ℤ, pos, _+ℤ_}
 use lib.Signed.{_<ℤ_}
 use Rattle.numbers.specs.Numbers.{lowestCounter, highestCounter, CounterInRange}
 
--- "An addition beyond an end gives that end." Document 02: it "tells, besides its sum, the distance between the true sum and the one given".
+-- "An addition beyond an end gives that end." Document 02: it "tells, besides its sum, the distance between the true sum and the one
+-- given".
 pub data AddsUp (v n : ℤ) : ℤ → ℕ → Type 0 where
   within : CounterInRange (v +ℤ n) → AddsUp v n (v +ℤ n) 0
   above : {k : ℕ} → highestCounter <ℤ (v +ℤ n) → highestCounter +ℤ pos k ≡ v +ℤ n → AddsUp v n highestCounter k

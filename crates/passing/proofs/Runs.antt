@@ -57,15 +57,14 @@ roomy-effect : (room : ℕ) (e : Effect) (s : State) → Roomy room (effectOn e 
 unfolding effectOn
 roomy-effect room Nothing s h = h
 roomy-effect room (Mark n) s h = h
-roomy-effect room (Put c v) s h = record { numbersFit = h .numbersFit; lostFits = h .lostFits }
-roomy-effect room (Add c v) s h = record { numbersFit = h .numbersFit; lostFits = omega (arith, h .lostFits) }
-roomy-effect room (Give e) s h = record { numbersFit = h .numbersFit; lostFits = h .lostFits }
-roomy-effect room (GiveNumber e v) s h =
-    record { numbersFit = omega (arith, rw length-append at (h .numbersFit)); lostFits = h .lostFits }
-roomy-effect room (Start t) s h = record { numbersFit = h .numbersFit; lostFits = h .lostFits }
-roomy-effect room (Stop t) s h = record { numbersFit = h .numbersFit; lostFits = h .lostFits }
-roomy-effect room (Suspend t) s h = record { numbersFit = h .numbersFit; lostFits = h .lostFits }
-roomy-effect room (Resume t) s h = record { numbersFit = h .numbersFit; lostFits = h .lostFits }
+roomy-effect room (Put c v) s h = h
+roomy-effect room (Add c v) s h = (h .0, omega (arith, h .1))
+roomy-effect room (Give e) s h = h
+roomy-effect room (GiveNumber e v) s h = (omega (arith, rw length-append at (h .0)), h .1)
+roomy-effect room (Start t) s h = h
+roomy-effect room (Stop t) s h = h
+roomy-effect room (Suspend t) s h = h
+roomy-effect room (Resume t) s h = h
 
 roomy-follow :
     (room r : ℕ) (a : Act) (s : State) (m : Marks) (next : ℕ → State → Marks → Run) →
@@ -89,9 +88,9 @@ unfolding effectOn
 room-for room Nothing s t given lost h = tt
 room-for room (Mark n) s t given lost h = tt
 room-for room (Put c v) s t given lost h = tt
-room-for room (Add c v) s t given lost h = omega (arith, h .lostFits)
+room-for room (Add c v) s t given lost h = omega (arith, h .1)
 room-for room (Give e) s t given lost h = tt
-room-for room (GiveNumber e v) s t given lost h = omega (arith, rw length-append at (h .numbersFit))
+room-for room (GiveNumber e v) s t given lost h = omega (arith, rw length-append at (h .0))
 room-for room (Start r) s t given lost h = tt
 room-for room (Stop r) s t given lost h = tt
 room-for room (Suspend r) s t given lost h = tt

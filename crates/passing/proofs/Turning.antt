@@ -39,7 +39,7 @@ module _ (g : Game) (counters : List ℤ) (flags : List Bool) (fields : List ℕ
   unfolding stateOf
   over-held r h = rw (below-read mostRoutines (routineIn flags fields) r blank h)
 
-  -- the steps of a turn, which leave no more numbers than there is room for if the definition's do
+  -- the steps of a turn, which leave no more numbers, and no more cut off, than there is room for if the definition's do
   module _ (book : List ℕ) (r : ℕ) (m : Marks) (steps : List ℕ) (same : steps ≡ routineSteps book r) (ready : Ready book r) where
     pub run-held : runOf (mostTicks steps) r steps (positionIn flags fields r) held m ≡ heldBy (ticksOf book r held) m
     run-held =

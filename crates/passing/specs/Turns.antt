@@ -53,10 +53,9 @@ positionIn flags fields r =
       left = getD (rowAt leftsRow fields) r 0;
     }
 
--- no more numbers are given than there is room for, and no more is cut off
-pub record Roomy (room : ℕ) (s : State) : Type 0 where
-  pub numbersFit : length (s .numbers) ≤ room
-  pub lostFits : s .lost < wordLimit
+-- no more numbers are given than there is room for, and what is cut off has 32 bits
+abbrev pub Roomy : ℕ → State → Type 0
+Roomy room s = (length (s .numbers) ≤ room) × (s .lost < wordLimit)
 
 -- a position that the tables have room for
 pub record PositionFits (y : Position) : Type 0 where

@@ -1,12 +1,11 @@
 -- What passes ask is so for an accepted book, from every sound state behind whose passes there is room for the numbers given and for what
 -- is cut off. The book's routines and their steps lie within it. Neither is ever taken back, so there is room behind each turn. A turn
 -- leaves a game that fits, so the tables have room for where its routine stands.
-use Prim.Native.Nat.{ℕ, zero, suc, _≤_, _<_}
+use Prim.Native.Nat.{ℕ, zero, suc, _<_}
 use mathlib.Core.Path.{_≡_, refl, ap}
 use mathlib.Core.Bool.{false, not}
 use mathlib.Core.List.{List, [], _∷_}
 use native.Mathlib.Omega.{arith}
-use lib.ListN.{length}
 use Rattle.numbers.specs.Numbers.{wordLimit}
 use Rattle.numbers.specs.Counting.{All}
 use Rattle.numbers.proofs.Tests.{by-flag, clash}
@@ -45,14 +44,9 @@ timed-within restFor within = within _ refl
 timed-within waitFor within = within _ refl .1
 timed-within joinFor within = within _ refl .1
 
--- there is room in a state if there is in one with no fewer numbers and no less cut off
-roomy-before : {room : ℕ} {s u : State} → length (s .numbers) ≤ length (u .numbers) → s .lost ≤ u .lost → Roomy room u → Roomy room s
-roomy-before numbers lost h = record { numbersFit = omega (arith, h .numbersFit); lostFits = omega (arith, h .lostFits) }
-
 -- a routine's end gives no number and cuts nothing off
 end-roomy : {room : ℕ} (how : Ending) (r : ℕ) (s : State) → Roomy room (withEnd how r s) → Roomy room s
-end-roomy {room} how r s =
-    end-keeps (λ u. Roomy room u → Roomy room s) how r s (λ on h. on (roomy-before (omega arith) (omega arith) h)) (λ h. h)
+end-roomy {room} how r s = end-keeps (λ u. Roomy room u → Roomy room s) how r s (λ on. on) (λ h. h)
 
 module _ (book : List ℕ) (a : Accepted book) where
   -- routine r of the book
@@ -114,7 +108,7 @@ module _ (book : List ℕ) (a : Accepted book) where
     turn-roomy r s on h =
         let t = ticksOf book r s in
         let taken = rw (turn-taken book r s (ap not on)) at h in
-        roomy-before (omega arith) (omega arith) (end-roomy (t .ending) r _ taken)
+        end-roomy (t .ending) r _ taken
 
     pub pass-asks :
         (rs : List ℕ) → All (λ r. r < routinesOf book) rs → (s : State) → Sound book s → Roomy room (pass book rs s .state) →
@@ -123,7 +117,7 @@ module _ (book : List ℕ) (a : Accepted book) where
     pass-asks [] l s sound h = tt
     pass-asks (r ∷ rs) l s sound h =
         let u = turn book r s .state in
-        let here : Roomy room u = roomy-before (omega (arith, pass-gives book rs u)) (pass-rises book rs u) h in (
+        let here : Roomy room u = (omega (arith, h .0, pass-gives book rs u), omega (arith, h .1, pass-rises book rs u)) in (
           λ on. record { roomy = turn-roomy r s on here; position = turn-position r (l .0) s sound on },
           pass-asks rs (l .1) u (turn-sound book a r s (l .0) sound) h,
         )
@@ -140,6 +134,6 @@ module _ (book : List ℕ) (a : Accepted book) where
           let later = rw more at h in
           let next = forNextPass u in
           let here : Roomy room u =
-          roomy-before (omega (arith, instant-gives book n rs next)) (instant-rises book n rs next) later
+          (omega (arith, later .0, instant-gives book n rs next), omega (arith, later .1, instant-rises book n rs next))
           in
           (pass-asks rs l s sound here, λ e. passes-ask n (forNextPass u) (next-pass-sound u (pass-keeps book a rs l s sound .0)) later))

@@ -61,10 +61,7 @@ module _
         let a = opened .accepted in
         let start = at-start-sound book g a (opened .fits) in
         let enough : Roomy room (round book g .played .state) =
-        record {
-          numbersFit = omega (arith, few, numbers-kept book a g (opened .fits));
-          lostFits = omega (arith, lost-few book a g (opened .fits));
-        }
+        (omega (arith, few, numbers-kept book a g (opened .fits)), omega (arith, lost-few book a g (opened .fits)))
         in
         rw (opened .holds given, opened .listed)
         (asking.passes-ask book a room (listedIn g) (listed-below start) mostPasses (atStart g) start enough)

@@ -176,7 +176,8 @@ fn mark_steps(book: &[u8]) -> usize
     count
 }
 
-// "After a refusal game and mark buffer are as lent, and passes and count of marks are 0." Nothing is cut off either.
+// "After a refusal game and mark buffer are as lent, and passes and count of marks are 0." Document 02: "A refused round reports
+// 0."
 fn turned_down(verdict: Verdict, game: Game) -> Played
     ensures { λ r. ⌜ ((buffer : List ℤ) → answered r buffer ≡ answers.turnedDown verdict game buffer) ⌝ }
 {

@@ -28,17 +28,23 @@ use Rattle.round.specs.Ticks.{waitsFor, tickOf, tick, effectOn}
 use Rattle.round.specs.Rounds.{ticks, allDone, turn, pass, instant, round}
 use Rattle.round.specs.Answers.{marksIn, numbersPerMark, written, roundVerdict, Answer, answer}
 
--- what is seen of a round: its answer, its passes, its marks as they stand in the buffer, and the stages and the playing order behind it
+-- what is seen of a round: its answer, its passes, its marks as they stand in the buffer, what it cut off, and the stages and the playing
+-- order behind it
 pub record Seen : Type 0 where
   pub verdict : Verdict
   pub passes : ℕ
   pub marks : List ℤ
+  pub lost : ℕ
   pub stages : List ℕ
   pub listed : List ℕ
 
--- an accepted round
+-- an accepted round that cut so much off, and one that cut off nothing
+abbrev pub cutsOff : ℕ → ℕ → List ℤ → List ℕ → List ℕ → Seen
+cutsOff lost passes marks stages listed =
+    record { verdict = accepted; passes = passes; marks = marks; lost = lost; stages = stages; listed = listed }
+
 abbrev pub seen : ℕ → List ℤ → List ℕ → List ℕ → Seen
-seen passes marks stages listed = record { verdict = accepted; passes = passes; marks = marks; stages = stages; listed = listed }
+seen = cutsOff 0
 
 -- a book, what is seen of its first rounds from set-up on, and the counters behind them
 pub record SetPlay : Type 0 where
@@ -52,6 +58,7 @@ seenIn a =
       verdict = a .verdict;
       passes = a .passes;
       marks = take (numbersPerMark * a .marks) (a .buffer);
+      lost = a .lost;
       stages = take (a .game .counts .routines) (map (λ x. x .stage) (a .game .routines));
       listed = entriesOf (a .game .listed);
     }
@@ -312,7 +319,7 @@ t10 =
       counters = pos 0 ∷ [];
     }
 
--- T11 "999,999 plus 2 is 1,000,000; −1,000,000 plus −1 is −1,000,000."
+-- T11 "999,999 plus 2 is 1,000,000; −1,000,000 plus −1 is −1,000,000." So each cuts off 1, as document 02 counts it.
 abbrev pub t11 : SetPlay
 t11 =
     record {
@@ -331,7 +338,7 @@ t11 =
           ∷ 2 ∷ 1 ∷ 0 ∷ 0 ∷ 255 ∷ 255 ∷ 255 ∷ 255
           ∷ [];
       rounds =
-          seen 1 [] (3 ∷ []) (0 ∷ [])
+          cutsOff 2 1 [] (3 ∷ []) (0 ∷ [])
           ∷ [];
       counters = pos 1000000 ∷ negsuc 999999 ∷ [];
     }

@@ -34,7 +34,7 @@ pub record Ranged (s : State) : Type 0 where
   pub counters : (c : ℕ) → CounterInRange (counterAt (s .game) c)
   pub numbers : NumbersRight (s .numbers)
 
--- an effect on what the book has, which keeps counters and numbers in range
+-- an effect on what the book has, which keeps counters and numbers in range, and cuts off no more than one addition may
 pub data Right (counts : Counts) (s : State) : Effect → Type 0 where
   nothing : Right counts s Nothing
   mark : {n : ℤ} → Right counts s (Mark n)

@@ -1,9 +1,9 @@
--- What the additions of a round cut off. The total never falls, and a step adds at most 1,000,000 to it, since the counters of a sound state
--- and the numbers of a book are in range. No step is completed twice, so all of a round cut off at most 1,000,000 for each step of the book.
+-- What the additions of a round cut off. The total never falls, and a step adds at most 1,000,000 to it, since the counters of a sound
+-- state and the numbers of a book are in range. A round completes at most 1,024 steps, so all its additions cut off at most 1,000,000 for
+-- each of these.
 use Prim.Native.Nat.{ℕ, _+_, _*_, _≤_}
 use mathlib.Core.Path.{refl}
-use mathlib.Core.Bool.{Bool, true}
-use mathlib.Core.List.{List, [], _∷_, _++_}
+use mathlib.Core.List.{List, [], _++_}
 use native.Mathlib.Omega.{arith}
 use borrow.Author.Tests.{eqb-true}
 use lib.Dec.{eqb}
@@ -23,18 +23,16 @@ use Rattle.round.specs.declared.Position.{Position}
 use Rattle.round.specs.State.{State, Event}
 use Rattle.round.specs.Actions.{atStart}
 use Rattle.round.specs.Ticks.{effectOn}
-use Rattle.round.specs.Rounds.{ticks, ticksOf, turn, pass, instant, listedIn, stateAfter}
+use Rattle.round.specs.Rounds.{ticks, ticksOf, turn, pass, instant, stateAfter}
 use Rattle.round.specs.Answers.{mostLost, roundVerdict, Answer, answer}
-use Rattle.round.specs.claims.Completed.{completes}
+use Rattle.round.specs.claims.Completed.{completes, anyStep}
 use Rattle.round.specs.claims.Sound.{Sound}
 use Rattle.round.proofs.Acts.{Ranged, Right, nothing, mark, put, add, give, giveNumber, start, stop, suspend, resume}
 use Rattle.round.proofs.Traces.{many-append, stops-none}
 use Rattle.round.proofs.Along.{pass-always, instant-always}
 use Rattle.round.proofs.Stepping.{ticks-by, ticks-along}
-use Rattle.round.proofs.StartSound.{listed-distinct, listed-below, at-start-sound}
 use Rattle.round.proofs.EffectSound.{sound-ranged, effect-sound}
 use Rattle.round.proofs.AfterTurn.{end-keeps, turn-by}
-use Rattle.round.proofs.BookSteps.{few-steps}
 use Rattle.round.proofs.Once.{completed-once}
 use Rattle.round.proofs.Reasons.{round-clauses, round-reason}
 use Rattle.round.proofs.After.{round-along}
@@ -42,6 +40,12 @@ use Rattle.round.proofs.After.{round-along}
 -- the total does not fall
 abbrev Rises : State → List Event → State → Type 0
 Rises s events u = s .lost ≤ u .lost
+
+rises-same : (s : State) → Rises s [] s
+rises-same s = omega arith
+
+rises-then : (s u v : State) (a b : List Event) → Rises s a u → Rises u b v → Rises s (a ++ b) v
+rises-then s u v a b first second = omega arith
 
 effect-rises : (s : State) (e : Effect) → s .lost ≤ effectOn e s .lost
 unfolding effectOn
@@ -63,20 +67,16 @@ module _ (book : List ℕ) where
       turn-by book r s (λ p. s .lost ≤ p .state .lost) (λ h. omega arith)
       (λ h.
       end-keeps (λ u. s .lost ≤ u .lost) (t .ending) r _ (λ k. k)
-      (ticks-along (countsOf book) r (routineSteps book r) Rises (λ u. omega arith) (λ s u v a b first second. omega arith)
+      (ticks-along (countsOf book) r (routineSteps book r) Rises rises-same rises-then
       (λ x u e events right says. effect-rises u e) (λ x u how y events stops. omega arith) _ _ s))
 
   pub pass-rises : (rs : List ℕ) (s : State) → s .lost ≤ pass book rs s .state .lost
-  pass-rises = pass-always Rises (λ s. omega arith) (λ s u v a b first second. omega arith) book turn-rises
+  pass-rises = pass-always Rises rises-same rises-then book turn-rises
 
   pub instant-rises : (n : ℕ) (rs : List ℕ) (s : State) → s .lost ≤ instant book n rs s .played .state .lost
-  instant-rises =
-      instant-always Rises (λ s. omega arith) (λ s u v a b first second. omega arith) book turn-rises (λ s. omega arith)
+  instant-rises = instant-always Rises rises-same rises-then book turn-rises rises-same
 
 -- it rises by at most so much with each step that is completed
-abbrev anyStep : ℕ → ℕ → Bool
-anyStep r p = true
-
 abbrev Loses : State → List Event → State → Type 0
 Loses s events u = u .lost ≤ s .lost + mostLostByOne * howMany (completes anyStep) events
 
@@ -128,9 +128,7 @@ module _ (book : List ℕ) (a : Accepted book) where
   unfolding atStart
   lost-few g f =
       let all = round-along book a g f Loses loses-same loses-then (λ r s l. turn-loses r s) (λ s. loses-same s) in
-      let below = listed-below (at-start-sound book g a f) in
-      let few = few-steps book a anyStep (listedIn g) (listed-distinct book g a f) below in
-      omega (arith, all, completed-once book a g f .once anyStep, few)
+      omega (arith, all, completed-once book a g f .steps)
 
 -- so an answer tells no more: it is that of an accepted round, or 0
 pub answer-lost : (book : List ℕ) (g : Game) (buffer : List ℤ) → answer book g buffer .lost ≤ mostLost

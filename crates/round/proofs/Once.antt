@@ -18,7 +18,7 @@ use Rattle.round.specs.Rounds.{listedIn, round, traceOf}
 use Rattle.round.specs.Answers.{marksIn}
 use Rattle.round.specs.claims.Reasons.{numbersGiven}
 use Rattle.round.specs.claims.Demand.{isSignalStep, givesSignal, countSteps}
-use Rattle.round.specs.claims.Completed.{completes, theStep, isMarkStep, isAddition, CompletedOnce}
+use Rattle.round.specs.claims.Completed.{completes, theStep, isMarkStep, anyStep, CompletedOnce}
 use Rattle.round.proofs.StartSound.{listed-distinct, listed-below, at-start-sound}
 use Rattle.round.proofs.Given.{numbers-in-trace}
 use Rattle.round.proofs.Paying.{leftOf, turn-pays}
@@ -62,5 +62,5 @@ module _ (book : List ℕ) (a : Accepted book) (g : Game) (f : Fits book g) wher
         marks = marks-once;
         space = omega (arith, marks-once, steps-in-book book a (λ op. eqb op opMark) (listedIn g) distinct below);
         numbers = omega (arith, numbers-in-book, a .laid .counts .fewSteps);
-        additions = omega (arith, each-once (isAddition book), few-steps book a (isAddition book) (listedIn g) distinct below);
+        steps = omega (arith, each-once anyStep, few-steps book a anyStep (listedIn g) distinct below);
       }

@@ -66,7 +66,7 @@ pub record Answer : Type 0 where
   pub lost : ℕ
   pub buffer : List ℤ
 
--- .. "over all additions of the round, which is at most 1,024,000,000": that it is, is Lost.antt's claim
+-- Document 02: the total "is at most 1,024,000,000"; that it is, is Lost.antt's claim
 abbrev pub mostLost : ℕ
 mostLost = 1024000000
 

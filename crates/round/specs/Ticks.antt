@@ -143,7 +143,8 @@ given s e = withMoves (withPresent s (set (s .present) e true)) true (s .eoi)
 abbrev pub givenNumber : State → ℕ → ℤ → State
 givenNumber s e v = withNumbers (given s e) (s .numbers ++ ((e, v) ∷ []))
 
--- the state behind an effect; a mark is an event and changes nothing
+-- the state behind an effect; a mark is an event and changes nothing; an addition adds what it cuts off to "the total of these over all
+-- additions of the round" (document 02)
 unfoldable pub effectOn : Effect → State → State
 effectOn Nothing s = s
 effectOn (Mark n) s = s

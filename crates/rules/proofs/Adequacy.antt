@@ -55,7 +55,7 @@ unfolding between schedulerIn
 round-by-the-rules book g buffer e =
     let ((a, fits, space), played) = accepted-played book g buffer e in
     let (run, log, derived, passes, stands, positions) =
-    round-given book a (threadsOf book a g) (between g) [] fits refl (threads-stand book a g) in
+    round-given book a (threadsOf book a g) (between g) [] fits (threads-stand book a g) in
     let last = round book g .played .state in
     let marks = marksIn (round book g .played .trace) in
     let room : numbersPerMark * length marks ≤ length buffer = omega (arith, space, completed-once book a g fits .space) in (

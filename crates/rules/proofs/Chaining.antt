@@ -12,7 +12,7 @@ use Rattle.round.specs.State.{State}
 use Rattle.round.specs.Actions.{atStart}
 use Rattle.round.proofs.Listing.{joined-entries}
 use Rattle.round.proofs.Actions.{at-start-entries}
-use Rattle.rules.specs.Schedulers.{continuing}
+use Rattle.rules.specs.Schedulers.{withNothingLost, continuing}
 use Rattle.rules.specs.Instants.{allAt, chained, withMoveClear}
 use Rattle.rules.specs.Scheduled.{schedulerIn}
 use Rattle.rules.proofs.Actions.{status₃, actual₆, order-same, status-same, flag-cleared, suspended-same, ends-same}
@@ -22,10 +22,10 @@ none-same b [] = refl
 none-same {B = B} b (x ∷ l) = ap (λ (m : List B). b ∷ m) (none-same b l)
 
 pub chains :
-    (book : List ℕ) (s : State) (ms : List (ℕ × ℤ)) → CountsInRange book → Fits book (s .game) → s .lost ≡ 0 →
-    withMoveClear (chained (schedulerIn s ms)) ≡ schedulerIn (atStart (s .game)) ms
+    (book : List ℕ) (s : State) (ms : List (ℕ × ℤ)) → CountsInRange book → Fits book (s .game) →
+    withNothingLost (withMoveClear (chained (schedulerIn s ms))) ≡ schedulerIn (atStart (s .game)) ms
 unfolding chained schedulerIn atStart
-chains book s ms range f none =
+chains book s ms range f =
     let g = s .game in
     let joined = sym (joined-entries book g range f) in
     let actual = ap (actual₆ g) joined ∙ sym (order-same g) ∙ sym (at-start-entries book g range f) in
@@ -44,5 +44,5 @@ chains book s ms range f none =
             toResume = flag-cleared g (λ x. x .resuming) (λ x. refl) i;
           };
       threads = record { status = status i; susp = suspended-same g i };
-      env = record { counters = g .counters; marks = ms; lost = none i };
+      env = record { counters = g .counters; marks = ms; lost = 0 };
     }

@@ -29,7 +29,7 @@ expired (rule25 x) h = refl
 expired (rule26 x u v) h = absurd (omega arith)
 expired (rule27 x u v) h = absurd (omega arith)
 
--- a call leads to one scheduler, since a sum is one number
+-- a call leads to one scheduler, since a sum, and what it cuts off, is one number
 same-call : {c : Call} {σ τ υ ω : Scheduler} → Called c σ τ → Called c υ ω → σ ≡ υ → τ ≡ ω
 same-call writes writes e = cc
 same-call becomes becomes e = cc

@@ -28,7 +28,8 @@ use Rattle.round.specs.Ticks.{effectOn}
 use Rattle.round.proofs.Entries.{pushed-entries}
 use Rattle.rules.specs.Instructions.{signal}
 use Rattle.rules.specs.Schedulers.{Stage, Scheduler, isAmong, statusOf, isNotStarted, withMove, withSignal, withValue, put}
-use Rattle.rules.specs.Schedulers.{withMark, withLoss, withOrders, withThreads, toStartPlus, toStopPlus, toSuspendPlus, toResumePlus}
+use Rattle.rules.specs.Schedulers.{withMark, withMoreLost, withOrders, withThreads, toStartPlus, toStopPlus, toSuspendPlus}
+use Rattle.rules.specs.Schedulers.{toResumePlus}
 use Rattle.rules.specs.Scheduled.{schedulerIn}
 use Rattle.rules.proofs.Walks.{Marks, HasRoom}
 use Rattle.rules.proofs.Stages.{seen, not-started-view}
@@ -65,7 +66,7 @@ module _ (s : State) (ms : Marks) where
   unfolding effectOn schedulerIn
   count-view c v = refl
 
-  pub add-view : (c : ℕ) (v : Sum) → schedulerIn (effectOn (Add c v) s) ms ≡ withLoss (v .lost) (put c (v .sum) (schedulerIn s ms))
+  pub add-view : (c : ℕ) (v : Sum) → schedulerIn (effectOn (Add c v) s) ms ≡ withMoreLost (v .lost) (put c (v .sum) (schedulerIn s ms))
   unfolding effectOn schedulerIn
   add-view c v = refl
 

@@ -50,7 +50,7 @@ module _ (book : List ℕ) (a : Accepted book) where
       (λ off. off)
 
   pub round-given :
-      (run : ℕ → Instruction) (s : State) (ms : Marks) (f : Fits book (s .game)) → s .lost ≡ 0 → StandFor book a run (s .game) →
+      (run : ℕ → Instruction) (s : State) (ms : Marks) (f : Fits book (s .game)) → StandFor book a run (s .game) →
       let d = round book (s .game) in
       (run′ : ℕ → Instruction) × (log : Log)
       × Round log run (schedulerIn s ms) run′ (schedulerIn (d .played .state) (ms ++ marksIn (d .played .trace)))
@@ -58,7 +58,7 @@ module _ (book : List ℕ) (a : Accepted book) where
       × ((r : ℕ) → r < routinesOf book →
       LeftBy (stepCount book r) (positionOf (routineAt (s .game) r)) (lastOf r log) (positionOf (routineAt (d .played .state .game) r)))
   unfolding round
-  round-given run s ms f none stand =
+  round-given run s ms f stand =
       let g = s .game in
       let range = a .laid .counts in
       let (to, log, rule, behind) =
@@ -66,7 +66,7 @@ module _ (book : List ℕ) (a : Accepted book) where
       (enough book a g f .passes) in (
         to,
         log,
-        rw (chains book s ms range f none) (rule .derived),
+        rw (chains book s ms range f) (rule .derived),
         rule .passes,
         rule .standing,
         λ r l. rw (at-start-positions g r) at (left-at book r (lastOf r log) (atStart g .game) _ (behind r l) (none-turns g f r l)),

@@ -9,7 +9,7 @@ use lib.ListN.{set}
 use Rattle.numbers.specs.Choice.{if_then_else_}
 use Rattle.rules.specs.Instructions.{Status, TERM, COOP, CONT, term, Instruction}
 use Rattle.rules.specs.Schedulers.{Stage, notStarted, continuing, rested, ended, stopped, stageBy, Scheduler, withActual}
-use Rattle.rules.specs.Schedulers.{withCurrent, withOrders, withThreads, has, statusOf, withMove, withSignal}
+use Rattle.rules.specs.Schedulers.{withCurrent, withOrders, withThreads, withNothingLost, has, statusOf, withMove, withSignal}
 use Rattle.rules.specs.Rules.{⟨_&_⟩⟶[_]⟨_&_⟩}
 
 -- t[run := inst], for the instructions of all threads
@@ -214,6 +214,6 @@ withMoveClear σ =
     record { signals = c .signals; terms = c .terms; values = c .values; eoi = c .eoi; move = false }
     )
 
--- "round = one chaining step and then one instant"
+-- "round = one chaining step and then one instant"; document 02 has the total "over all additions of the round"
 abbrev pub Round : Log → (ℕ → Instruction) → Scheduler → (ℕ → Instruction) → Scheduler → Type 0
-Round log run σ run′ σ′ = Instant log run (withMoveClear (chained σ)) run′ σ′
+Round log run σ run′ σ′ = Instant log run (withNothingLost (withMoveClear (chained σ))) run′ σ′

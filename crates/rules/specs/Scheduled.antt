@@ -1,5 +1,5 @@
--- The scheduler that a game stands for, and a state of a round; a routine's position is not in it, and beside it are the marks made and,
--- between two rounds, what the additions have cut off.
+-- The scheduler that a game stands for, and a state of a round; a routine's position is not in it. A game has neither marks nor a total of
+-- what was cut off, so both are beside it; a state has the total.
 use Prim.Native.Nat.{ℕ}
 use mathlib.Core.Bool.{false}
 use mathlib.Core.List.{List, [], map}

@@ -155,9 +155,12 @@ put c v σ = withEnv σ (record { counters = set (σ .env .counters) c v; marks 
 abbrev pub withMark : ℕ → ℤ → Scheduler → Scheduler
 withMark r n σ = withEnv σ (record { counters = σ .env .counters; marks = σ .env .marks ++ ((r, n) ∷ []); lost = σ .env .lost })
 
--- so much more cut off
-abbrev pub withLoss : ℕ → Scheduler → Scheduler
-withLoss k σ = withEnv σ (record { counters = σ .env .counters; marks = σ .env .marks; lost = σ .env .lost + k })
+-- so much more cut off, and nothing yet
+abbrev pub withMoreLost : ℕ → Scheduler → Scheduler
+withMoreLost k σ = withEnv σ (record { counters = σ .env .counters; marks = σ .env .marks; lost = σ .env .lost + k })
+
+abbrev pub withNothingLost : Scheduler → Scheduler
+withNothingLost σ = withEnv σ (record { counters = σ .env .counters; marks = σ .env .marks; lost = 0 })
 
 -- env and env′ of rule 1, for each call; document 02: an addition "tells, besides its sum, the distance between the true sum and the one
 -- given", and "the total of these" is kept
@@ -166,9 +169,9 @@ pub data Called : Call → Scheduler → Scheduler → Type 0 where
   writes : {r : ℕ} {n : ℤ} {σ : Scheduler} → Called (mark r n) σ (withMark r n σ)
   -- "counter becomes n; n is added"
   becomes : {c : ℕ} {n : ℤ} {σ : Scheduler} → Called (set-to c n) σ (put c n σ)
-  adds : {c k : ℕ} {n v : ℤ} {σ : Scheduler} → AddsUp (content σ c) n v k → Called (add c n) σ (withLoss k (put c v σ))
+  adds : {c k : ℕ} {n v : ℤ} {σ : Scheduler} → AddsUp (content σ c) n v k → Called (add c n) σ (withMoreLost k (put c v σ))
   -- "b's content is added to a"
-  takes : {c d k : ℕ} {v : ℤ} {σ : Scheduler} → AddsUp (content σ c) (content σ d) v k → Called (take c d) σ (withLoss k (put c v σ))
+  takes : {c d k : ℕ} {v : ℤ} {σ : Scheduler} → AddsUp (content σ c) (content σ d) v k → Called (take c d) σ (withMoreLost k (put c v σ))
 
 -- env′ of rule 30, "transformed by the return of the value": "the k-th number goes to b"
 abbrev pub returned : ℕ → ℕ → ℕ → Scheduler → Scheduler

@@ -1,5 +1,5 @@
--- `numbers::distance` meets its contract. The difference is not below 0 and has 32 bits, so that the machine's 64 hold it with its sign, and
--- what is read back of it is that difference.
+-- `numbers::distance` meets its contract. The difference is not below 0 and has 32 bits, so that the machine's 64 hold it with its sign,
+-- and what is read back of it is that difference.
 use mathlib.Core.Path.{_≡_}
 use native.Mathlib.Omega.{arith}
 use lib.IntN.{_-ℤ_}

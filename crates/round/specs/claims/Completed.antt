@@ -1,11 +1,11 @@
 -- No step is completed twice in one round by one routine, and what follows from it for the limits.
 use Prim.Native.Nat.{ℕ, _*_, _≤_}
-use mathlib.Core.Bool.{Bool, false, _&&_, _||_}
+use mathlib.Core.Bool.{Bool, true, false, _&&_}
 use mathlib.Core.List.{List}
 use lib.Dec.{eqb}
 use lib.ListN.{length}
 use Rattle.numbers.specs.Counting.{howMany}
-use Rattle.kinds.specs.Ops.{opMark, opAdd, opTake}
+use Rattle.kinds.specs.Ops.{opMark}
 use Rattle.kinds.specs.Steps.{opAt}
 use Rattle.layout.specs.Layout.{mostSteps}
 use Rattle.directory.specs.Directory.{routineSteps}
@@ -33,8 +33,8 @@ theStep r p q o = eqb q r && eqb o p
 abbrev pub isMarkStep : List ℕ → ℕ → ℕ → Bool
 isMarkStep book r p = eqb (opAt (routineSteps book r) p) opMark
 
-abbrev pub isAddition : List ℕ → ℕ → ℕ → Bool
-isAddition book r p = let op = opAt (routineSteps book r) p in eqb op opAdd || eqb op opTake
+abbrev pub anyStep : ℕ → ℕ → Bool
+anyStep r p = true
 
 -- in a round from game g
 pub record CompletedOnce (book : List ℕ) (g : Game) : Type 0 where
@@ -49,5 +49,5 @@ pub record CompletedOnce (book : List ℕ) (g : Game) : Type 0 where
   pub space : numbersPerMark * length (marksIn (traceOf book g)) ≤ spaceFor book
   -- gives at most 1,024 numbers,
   pub numbers : numbersGiven (traceOf book g) ≤ mostNumbers
-  -- and adds to counters at most 1,024 times, the most steps that a book has
-  pub additions : howMany (completes (isAddition book)) (traceOf book g) ≤ mostSteps
+  -- and completes at most 1,024 steps, the most that a book has
+  pub steps : howMany (completes anyStep) (traceOf book g) ≤ mostSteps

@@ -113,21 +113,25 @@ counting =
     }
 
 -- Document 02: "The addition itself now tells, besides its sum, the distance between the true sum and the one given. The round's answer
--- carries the total of these over all additions of the round". In round 2 routine 0 adds 5 to 999,998 and routine 1 takes −4 from
--- −1,000,000 and from a sum in range; round 1 cuts off nothing, and round 3 as much as two additions to an end do.
+-- carries the total of these over all additions of the round". In round 2 routine 0 adds 5 to 999,998 and waits; routine 1 adds −4 to
+-- −1,000,000, and to itself, which stays in range; and in the second pass routine 0 adds 1 to an end. Round 1 cuts off nothing, and round 3
+-- as much as two additions to an end do.
 abbrev pub cutting : OpsRow
 cutting =
     record {
       book =
-          book 0 3 (
-          (start 1 ∷ set 0 (pos 999998) ∷ rest ∷ add 0 (pos 5) ∷ rest ∷ add 0 (pos 1000000) ∷ add 0 (pos 7) ∷ [])
-          ∷ (set 1 (minus 1000000) ∷ set 2 (minus 4) ∷ take 1 2 ∷ take 2 2 ∷ [])
+          book 1 3 (
+          (start 1 ∷ set 0 (pos 999998) ∷ rest
+          ∷ add 0 (pos 5) ∷ wait 0 ∷ add 0 (pos 1) ∷ rest
+          ∷ add 0 (pos 1000000) ∷ add 0 (pos 7)
+          ∷ [])
+          ∷ (set 1 (minus 1000000) ∷ set 2 (minus 4) ∷ take 1 2 ∷ take 2 2 ∷ signal 0 ∷ [])
           ∷ []
           );
       done =
           cutsOff 0 1 [] (at rested 3 ∷ at notStarted 0 ∷ []) (pos 999998 ∷ pos 0 ∷ pos 0 ∷ [])
-          ∷ cutsOff 7 1 [] (at rested 5 ∷ at ended 4 ∷ []) (pos 1000000 ∷ minus 1000000 ∷ minus 8 ∷ [])
-          ∷ cutsOff 1000007 1 [] (at ended 7 ∷ at ended 4 ∷ []) (pos 1000000 ∷ minus 1000000 ∷ minus 8 ∷ [])
+          ∷ cutsOff 8 2 [] (at rested 7 ∷ at ended 5 ∷ []) (pos 1000000 ∷ minus 1000000 ∷ minus 8 ∷ [])
+          ∷ cutsOff 1000007 1 [] (at ended 9 ∷ at ended 5 ∷ []) (pos 1000000 ∷ minus 1000000 ∷ minus 8 ∷ [])
           ∷ [];
     }
 
