@@ -1,8 +1,13 @@
--- Laws of tests: two tests joined by && or ||, a test that is not true or has both values, a choice by a test and a claim by one.
--- By a test's two values: at each of them what is claimed computes, or one of the hypotheses says that true is false.
+-- Laws of tests: two tests joined by && or ||, a test that is not true or has both values, a choice by a test and a claim by one, a test of
+-- order turned round. By a test's two values: at each of them what is claimed computes, or one of the hypotheses says that true is false.
+use Prim.Native.Nat.{ℕ}
 use mathlib.Core.Path.{_≡_, refl, sym, _∙_}
-use mathlib.Core.Bool.{Bool, true, false, _&&_, _||_, true≢false, and-eq-true-iff}
+use mathlib.Core.Bool.{Bool, true, false, not, _&&_, _||_, true≢false, and-eq-true-iff}
 use mathlib.Core.Logic.{_⊎_, inl, inr}
+use borrow.Author.Tests.{leb-true, leb-false, lt-ltb, le-ltb}
+use lib.Dec.{ltb, leb}
+use lib.IntN.{ℤ, pos, negsuc}
+use lib.Signed.{ltZ, leZ}
 use Rattle.numbers.specs.Choice.{if_then_else_}
 
 -- no test has both values
@@ -37,3 +42,13 @@ by-test P false p q = q refl
 pub by-flag : {P : Type 0} (t : Bool) → (t ≡ true → P) → (t ≡ false → P) → P
 by-flag true p q = p refl
 by-flag false p q = q refl
+
+-- a test of order, turned round
+turned-nat : (a b : ℕ) → ltb b a ≡ not (leb a b)
+turned-nat a b = by-flag (leb a b) (λ e. rw (e, le-ltb b a (leb-true a b e))) (λ e. rw (e, lt-ltb b a (leb-false a b e)))
+
+pub turned : (x y : ℤ) → ltZ y x ≡ not (leZ x y)
+turned (pos a) (pos b) = turned-nat a b
+turned (pos a) (negsuc b) = refl
+turned (negsuc a) (pos b) = refl
+turned (negsuc a) (negsuc b) = turned-nat b a

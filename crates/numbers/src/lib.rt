@@ -1,9 +1,10 @@
 // The numbers of a book: little-endian, of 16 bits and of 32 in two's complement.
 ghost use mathlib.Core.Path.{_≡_};
-ghost use Prim.Native.Nat.{_<_};
-ghost use lib.Dec.{T};
-ghost use lib.IntN.{natAbs, _-ℤ_};
+ghost use Prim.Native.Nat.{_<_, _≤_};
+ghost use lib.Dec.{T, eqb};
+ghost use lib.IntN.{pos, natAbs, _+ℤ_, _-ℤ_};
 ghost use lib.Signed.{nonNeg};
+ghost use Rattle.numbers.specs.Choice.{if_then_else_};
 ghost use Rattle.numbers.specs.Numbers.{halfLimit, wordLimit, halfOf, halfAt, numberOf, isWithin, countOf, sumOf, relationOf};
 
 // The ends of n.
@@ -15,6 +16,12 @@ pub const HIGHEST: i32 = 1000000;
 pub const LOWEST_COUNTER: i32 = -1000000;
 
 pub const HIGHEST_COUNTER: i32 = 1000000;
+
+// How far below 0 the lowest number of 32 bits lies.
+const RAISE: i64 = 2147483648;
+
+// The highest bit of a usize: a number divided by it gives 1 where it is that or more, and 0 where it is less.
+const HIGHEST_BIT: usize = 9223372036854775808;
 
 // What an addition to a counter gives: the sum, and what was cut off, the distance between the true sum and the one given.
 pub struct Sum {
@@ -101,13 +108,32 @@ pub fn sum_of(v: i32, n: i32) -> Sum
     }
 }
 
-// A counter's content v against n, by 0 equal, 1 less, 2 greater: 1 where the relation holds, and 0. Equal: n lies from v to v.
+// A number raised by 2^31, so that the lowest is 0 and the order stays.
+fn raised(n: i32) -> usize
+    ensures { λ r. ⌜ (pos r ≡ n +ℤ pos 2147483648) × (r < wordLimit) ⌝ }
+{
+    ((n as i64) + RAISE) as usize
+}
+
+// One of two numbers, each 1 or 0: the first where the weight is 1, and the second where it is 0.
+fn weighed(weight: usize, first: usize, second: usize) -> usize
+    requires { ⌜ (weight ≤ 1) × (first ≤ 1) × (second ≤ 1) ⌝ }
+    ensures { λ r. ⌜ (r ≡ (if eqb weight 1 then first else second)) × (r ≤ 1) ⌝ }
+{
+    weight * first + (1 - weight) * second
+}
+
+// A counter's content v against n, by 0 equal, 1 less, 2 greater: 1 where the relation holds, and 0. By arithmetic alone, so that compiled
+// code has no branch: the difference is HIGHEST_BIT where v and n are equal, and its quotients tell less, equal and greater, as 1 or 0. The
+// relation's number gives the weights, of which `from_two` is 1 for 2 and above.
 pub fn relation(relation: usize, v: i32, n: i32) -> usize
     ensures { λ r. ⌜ r ≡ relationOf relation v n ⌝ }
 {
-    match relation {
-        0 => is_within(n, v, v) as usize,
-        1 => (v < n) as usize,
-        _ => (n < v) as usize,
-    }
+    let difference = raised(v) + HIGHEST_BIT - raised(n);
+    let not_less = difference / HIGHEST_BIT;
+    let greater = (difference - 1) / HIGHEST_BIT;
+    let less = 1 - not_less;
+    let equal = not_less - greater;
+    let from_two = (relation / 2 + (HIGHEST_BIT - 1)) / HIGHEST_BIT;
+    weighed(from_two, greater, weighed(relation % 2, less, equal))
 }

@@ -1,42 +1,27 @@
 -- `kinds::decode` meets its contract: the code's four tests are the contract's, in the same order. What the machine reads back of a, b, n
 -- and the limits is those numbers, since each fits 32 bits.
 use Prim.Native.Nat.{ℕ, _<_}
-use mathlib.Core.Path.{_≡_, refl, ap, _∙_}
+use mathlib.Core.Path.{_≡_, ap, _∙_}
 use mathlib.Core.Bool.{Bool, not}
 use mathlib.Core.List.{[]}
-use native.Mathlib.Decide.{decLt}
 use native.Mathlib.Omega.{arith}
 use borrow.Author.Needs.{needs}
-use borrow.Author.Tests.{lt-ltb, le-ltb, lt-leb, le-leb}
+use borrow.Author.Tests.{lt-ltb, le-ltb}
 use denote.Ref.{now}
-use lib.Dec.{ltb, leb}
 use lib.ListN.{getD}
 use mir.Syntax.{w32}
 use mir.Val.{SFits, toZ, ofZ}
-use lib.IntN.{ℤ, pos, negsuc}
+use lib.IntN.{ℤ, pos}
 use lib.Signed.{leZ, ltZ}
 use mir.Facts.{toZ-ofZ, toZ-pos}
 use Rattle.numbers.specs.Numbers.{halfLimit}
 use Rattle.numbers.specs.Choice.{if_then_else_}
+use Rattle.numbers.proofs.Tests.{turned}
 use Rattle.kinds.specs.declared.Step.the-variants.{Kind, Refused}
 use Rattle.kinds.specs.Steps.{kindOf}
 use Rattle.kinds.specs.Limits.{decodedWithin}
 use Rattle.kinds.proofs.decode.Statement.{statement}
 use Rattle.kinds.proofs.decode.Tie as tie
-
--- a test that a number is no lower, turned round
-turnedNat : (a b : ℕ) → ltb b a ≡ not (leb a b)
-turnedNat a b =
-    elim (decLt b a) [
-      | yes h ↦ rw (lt-ltb b a h, lt-leb a b h)
-      | no n ↦ rw (le-ltb b a (omega arith), le-leb a b (omega arith))
-    ]
-
-turned : (x y : ℤ) → ltZ y x ≡ not (leZ x y)
-turned (pos a) (pos b) = turnedNat a b
-turned (pos a) (negsuc b) = refl
-turned (negsuc a) (pos b) = refl
-turned (negsuc a) (negsuc b) = turnedNat b a
 
 -- the code's test of a field against its limit is the contract's, the other way round
 held : (l : ℤ) (x : ℕ) {t : Bool} → SFits w32 l → x < halfLimit → leZ (toZ w32 (ofZ w32 l)) (toZ w32 x) ≡ t → ltZ (pos x) l ≡ not t

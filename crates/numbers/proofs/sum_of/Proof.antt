@@ -8,19 +8,12 @@ use lib.IntN.{ℤ, natAbs, _+ℤ_}
 use lib.Signed.{natAbs-le}
 use mir.Syntax.{w32, w64}
 use mir.Val.{SFits, toZ, ofZ}
-use mir.Facts.{toZ-ofZ, sfits-widen}
+use mir.Facts.{toZ-ofZ}
 use Rattle.numbers.specs.Numbers.{wordLimit}
-use Rattle.numbers.proofs.Signs.{sum-fits, counter-fits}
+use Rattle.numbers.proofs.Signs.{widened, wide, widened-is, sum-fits, counter-fits}
 use Rattle.numbers.proofs.Sums.{sum-near, over, under, over-by, under-by}
 use Rattle.numbers.proofs.sum_of.Statement.{statement}
 use Rattle.numbers.proofs.sum_of.Tie as tie
-
--- a number of 32 bits, read by the machine and held in 64
-abbrev widened : ℤ → ℤ
-widened z = toZ w64 (ofZ w64 (toZ w32 (ofZ w32 z)))
-
-wide : {z : ℤ} → SFits w32 z → SFits w64 (toZ w32 (ofZ w32 z))
-wide f = rw (toZ-ofZ f) (sfits-widen tt f)
 
 near : (z : ℤ) → SFits w32 z → natAbs z ≤ 2 ^ 31
 near z f = natAbs-le z (f .sfits)
@@ -33,7 +26,7 @@ module _ (c : tie.Start) where
   small = omega (arith, sum-near (c .args .v) (c .args .n), near (c .args .v) (c .fits .v), near (c .args .n) (c .fits .n))
 
   sum-is : widened (c .args .v) +ℤ widened (c .args .n) ≡ sum
-  sum-is = rw (toZ-ofZ (wide (c .fits .v)), toZ-ofZ (wide (c .fits .n)), toZ-ofZ (c .fits .v), toZ-ofZ (c .fits .n))
+  sum-is = rw (widened-is (c .fits .v), widened-is (c .fits .n))
 
   fits : SFits w64 (widened (c .args .v) +ℤ widened (c .args .n))
   fits = rw sum-is (sum-fits (c .args .v) (c .args .n) (c .fits .v) (c .fits .n))
