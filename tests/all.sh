@@ -1,7 +1,7 @@
 #!/bin/sh
 # All tests: the gate, then the program that runs scripts on long ones, a model of rounds on the plays of both files, the program that plays
-# a book on the example books and on refused ones, what a play cuts off, the C program on the example books, and the C call on the vectors
-# and on damaged books.
+# a book on the example books and on refused ones, what a play cuts off, the compiled relation test, the C program on the example books, and
+# the C call on the vectors and on damaged books.
 set -e
 cd "$(dirname "$0")/.."
 .ci/run
@@ -14,6 +14,7 @@ echo "hoard.book: $lost"
 expected="round 1 cut off 0;round 2 cut off 0;round 3 cut off 200000;round 4 cut off 400000;round 5 cut off 0;in all 600000;"
 [ "$lost" = "$expected" ] || { echo "expected: $expected"; exit 1; }
 [ "$(examples/cut_off.sh examples/endless.book || true)" = "refused 7 1" ] || { echo "endless.book is not refused"; exit 1; }
+tests/branchless.sh
 examples/build.sh
 told() {
     status=0
