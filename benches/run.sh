@@ -20,13 +20,4 @@ for placement in 1 2 3 4 5; do
     cat target/benches.$placement
 done
 echo "plain / library, mean, lowest and highest of the five builds:"
-awk -F ': library|plain / library ' '
-    NF == 3 {
-        if (!($1 in low)) { name[++lines] = $1; low[$1] = high[$1] = $3 }
-        if ($3 < low[$1]) low[$1] = $3
-        if ($3 > high[$1]) high[$1] = $3
-        sum[$1] += $3
-        times[$1]++
-    }
-    END { for (i = 1; i <= lines; i++) { n = name[i]; printf "%s: %.2f, %s to %s\n", n, sum[n] / times[n], low[n], high[n] } }
-' target/benches.[1-5]
+awk -v ratio="plain / library" -f benches/ranges.awk target/benches.[1-5]

@@ -11,6 +11,7 @@ mod plain;
 mod random;
 mod random_books;
 mod random_plays;
+mod side_by_side;
 mod steps;
 mod timed_books;
 mod timing;

@@ -1,44 +1,18 @@
 //! Times the library's calls beside the plain ones.
 
 use std::hint::black_box;
-use std::time::Instant;
 
-use crate::game::{Game, Outcome, Played, Stored, MOST_ROUTINES};
+use crate::game::{Game, Outcome, Stored, MOST_ROUTINES};
+use crate::side_by_side::{medians, play_all, BATCHES};
 use crate::timed_books::{timed_books, TimedBook};
 use crate::{books, library, plain};
-
-const BATCHES: usize = 501;
-
-/// How many nanoseconds a batch takes, about.
-const BATCH: f64 = 300_000.0;
 
 /// The room in which every game can be stored.
 const STORED_ROOM: usize = 1024;
 
-/// Nanoseconds that a piece of work takes, over one batch.
-fn batch(work: &mut impl FnMut(), repeats: usize) -> f64 {
-    let start = Instant::now();
-    for _ in 0..repeats {
-        work();
-    }
-    start.elapsed().as_nanos() as f64 / repeats as f64
-}
-
-fn median(mut times: Vec<f64>) -> f64 {
-    times.sort_by(f64::total_cmp);
-    times[times.len() / 2]
-}
-
-/// Times the same work of so many calls on both sides, a batch of each in turn, and prints the medians for a call.
-fn time(name: &str, calls: usize, mut by_library: impl FnMut(), mut by_plain: impl FnMut()) {
-    let once = batch(&mut by_library, 10).max(batch(&mut by_plain, 10));
-    let repeats = (BATCH / once).ceil() as usize;
-    let (mut library_times, mut plain_times) = (Vec::new(), Vec::new());
-    for _ in 0..BATCHES {
-        library_times.push(batch(&mut by_library, repeats) / calls as f64);
-        plain_times.push(batch(&mut by_plain, repeats) / calls as f64);
-    }
-    let (library_time, plain_time) = (median(library_times), median(plain_times));
+/// Times the same work of so many calls on both sides, and prints the medians for a call.
+fn time(name: &str, calls: usize, by_library: impl FnMut(), by_plain: impl FnMut()) {
+    let (library_time, plain_time) = medians(calls, by_library, by_plain);
     println!(
         "{name}: library {library_time:.1} ns, plain {plain_time:.1} ns, plain / library {:.2}",
         plain_time / library_time
@@ -106,20 +80,6 @@ fn games_of(timed: &TimedBook) -> Vec<Game> {
         game = expected.game;
     }
     games
-}
-
-/// Plays a round from each game. Both sides take the game by value and answer by value, and all of that is counted: copying the recorded
-/// game for the call, the call, and writing an answer with the game given back. The plain version plays on the copy that it is given.
-#[inline(always)]
-fn play_all(
-    round: impl Fn(&[u8], Game, &mut [i32]) -> Played,
-    book: &[u8],
-    games: &[Game],
-    marks: &mut [i32],
-) {
-    for game in games {
-        black_box(&round(black_box(book), *black_box(game), marks));
-    }
 }
 
 /// Tests whether each game fits, which it does. Both sides take the game by value.
