@@ -10,8 +10,7 @@ mkdir -p "$folder"
 
 # SIDE COMMIT: writes the archive of the call that plays a round, under a name of its own
 build() {
-    git worktree prune
-    [ -d "$folder/$1" ] || git worktree add --quiet --detach "$folder/$1"
+    [ -d "$folder/$1/.git" ] || { rm -rf "$folder/$1"; git clone --quiet --shared --no-checkout "$PWD" "$folder/$1"; }
     git -C "$folder/$1" checkout --quiet --detach "$2"
     (cd "$folder/$1" && rt staticlib play_c >"$folder/log" 2>&1) || { cat "$folder/log"; exit 1; }
     objcopy --redefine-sym zulqenat_play="zulqenat_play_$1" "$folder/$1/target/staticlib/libplay_c.a" "$folder/libplay_$1.a"

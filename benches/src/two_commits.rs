@@ -52,17 +52,14 @@ fn after(book: &[u8], game: Game, marks: &mut [i32]) -> Played {
 /// How many rounds of a book's play from set-up on are timed.
 const ROUNDS: usize = 40;
 
-/// Counter 0 keeps the loop going; the others change in each round, so that a test comes out now one way and now another.
+/// Counter 0 keeps the loop going; the others are drawn anew for each round, so that a test comes out now one way and now another.
 const COUNTERS: u8 = 8;
 
-/// How far a counter goes in a round, at most, up or down.
-const STRIDE: usize = 3;
+/// How far from 0 the counters and the n of the tests lie at most: so near that each of the three relations holds often.
+const FARTHEST: usize = 3;
 
-/// Up to where, above 0 and below, the tests hold a counter against n: about as far as the counters come.
-const FARTHEST: usize = STRIDE * ROUNDS;
-
-/// The steps beside the tests: the loop and its end, an addition to each counter but the first, and a rest.
-const OTHER_STEPS: usize = 3 + COUNTERS as usize - 1;
+/// The steps beside the tests: the loop and its end, and a rest.
+const OTHER_STEPS: usize = 3;
 
 /// As many tests as there is room for in a book of one routine: an if and its end each.
 const TESTS: usize = (MOST_STEPS - OTHER_STEPS) / 2;
@@ -76,9 +73,6 @@ fn around_zero(random: &mut Random, end: usize) -> i32 {
 fn tests(relation: impl Fn(&mut Random, usize) -> u16) -> Vec<u8> {
     let random = &mut Random(5);
     let mut steps = vec![step(WHILE, 0, LESS, LIMIT)];
-    for counter in 1..COUNTERS {
-        steps.push(step(ADD, counter, 0, around_zero(random, STRIDE)));
-    }
     for test in 0..TESTS {
         let counter = 1 + random.below(COUNTERS as usize - 1) as u8;
         let by = relation(random, test);
@@ -89,7 +83,7 @@ fn tests(relation: impl Fn(&mut Random, usize) -> u16) -> Vec<u8> {
     books::book(&[steps], 0, COUNTERS.into())
 }
 
-/// The games of a play from set-up on, each as lent to a round. Both commits have to answer each round alike.
+/// The games of a play from set-up on, each as lent to a round, with counters of its own. Both commits have to answer each round alike.
 fn games_of(name: &str, book: &[u8]) -> Vec<Game> {
     let mut game = Game::set_up(Counts {
         routines: 1,
@@ -97,7 +91,11 @@ fn games_of(name: &str, book: &[u8]) -> Vec<Game> {
         counters: COUNTERS.into(),
     });
     let mut games = Vec::new();
+    let random = &mut Random(6);
     for _ in 0..ROUNDS {
+        for counter in &mut game.counters[1..COUNTERS as usize] {
+            *counter = around_zero(random, FARTHEST);
+        }
         let (first, second) = (before(book, game, &mut []), after(book, game, &mut []));
         assert!(first.verdict.is_accepted(), "{name}: not accepted");
         assert!(first == second, "{name}: answers differ");
@@ -121,7 +119,7 @@ fn time(name: &str, book: &[u8]) {
 }
 
 fn main() {
-    println!("a round of {TESTS} tests, median of {BATCHES} batches, both commits in turn; a ratio above 1 means that the second is faster");
+    println!("a round of {TESTS} tests, median of {BATCHES} batches, both commits in turn; a ratio above 1 means the second is faster");
     time(
         "relations in turn",
         &tests(|_, test| (test % RELATIONS as usize) as u16),
