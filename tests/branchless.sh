@@ -12,7 +12,7 @@ instructions() {
 
 # FILE FUNCTION: those that may go on elsewhere than at the next, but for the return
 leaving() {
-    instructions "$1" "$2" | grep -E '^([a-z]+ )*(j[a-z]+|loop[a-z]*|call[a-z]*)( |$)' || true
+    instructions "$1" "$2" | grep -wE 'l?j[a-z]+|loop[a-z]*|l?call[a-z]*|xbegin' || true
 }
 
 cc -O0 -c -x c -o target/branching.o - <<'C'

@@ -14,16 +14,19 @@ use Rattle.numbers.specs.Choice.{if_then_else_}
 use Rattle.numbers.specs.Numbers.{wordLimit}
 use Rattle.numbers.proofs.Tests.{by-flag, turned}
 
+abbrev pub raise : ℕ
+raise = 2147483648
+
 -- a number of 32 bits, raised so that the lowest is 0
 abbrev pub raisedOf : ℤ → ℕ
-raisedOf (pos n) = n + 2147483648
-raisedOf (negsuc n) = 2147483648 - suc n
+raisedOf (pos n) = n + raise
+raisedOf (negsuc n) = raise - suc n
 
-pub raised-is : (z : ℤ) → SFits w32 z → z +ℤ pos 2147483648 ≡ pos (raisedOf z)
+pub raised-is : (z : ℤ) → SFits w32 z → z +ℤ pos raise ≡ pos (raisedOf z)
 raised-is (pos n) f = refl
-raised-is (negsuc n) f = rw (le-ltb 2147483648 (suc n) (omega arith))
+raised-is (negsuc n) f = rw (le-ltb raise (suc n) (omega arith))
 
-pub raised-to : {z : ℤ} {r : ℕ} → SFits w32 z → pos r ≡ z +ℤ pos 2147483648 → r ≡ raisedOf z
+pub raised-to : {z : ℤ} {r : ℕ} → SFits w32 z → pos r ≡ z +ℤ pos raise → r ≡ raisedOf z
 raised-to {z} f e = ap natAbs (e ∙ raised-is z f)
 
 pub raised-small : (z : ℤ) → SFits w32 z → raisedOf z < wordLimit

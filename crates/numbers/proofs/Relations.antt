@@ -21,8 +21,8 @@ answers : (b : Bool) → (eqb (if b then 1 else 0) 1 ≡ true) ↔ T b
 answers true = (λ e. tt, λ t. refl)
 answers false = (λ e. let z : _≡_ {A = ℕ} 0 1 = cc in absurd (omega arith), λ t. absurd t)
 
-less : (v n : ℤ) → T (ltZ v n) ↔ (v <ℤ n)
-less v n = (λ t. record { lt = t }, λ h. h .lt)
+below : (v n : ℤ) → T (ltZ v n) ↔ (v <ℤ n)
+below v n = (λ t. record { lt = t }, λ h. h .lt)
 
 antisym : (v n : ℤ) → T (leZ v n) → T (leZ n v) → v ≡ n
 antisym (pos a) (pos b) h k = ap pos (le-antisymm (leb→le a b h) (leb→le b a k))
@@ -38,9 +38,9 @@ same v n = (
 
 pub relation-holds : (relation : ℕ) (v n : ℤ) → (eqb (relationOf relation v n) 1 ≡ true) ↔ Holds relation v n
 relation-holds zero v n = Iff·trans (answers (leZ v n && leZ n v)) (same v n)
-relation-holds (suc zero) v n = Iff·trans (answers (ltZ v n)) (less v n)
+relation-holds (suc zero) v n = Iff·trans (answers (ltZ v n)) (below v n)
 relation-holds (suc (suc k)) v n =
-    rw (ne-eqb (suc (suc k)) 0 (λ e. omega arith), ne-eqb (suc (suc k)) 1 (λ e. omega arith)) (Iff·trans (answers (ltZ n v)) (less n v))
+    rw (ne-eqb (suc (suc k)) 0 (λ e. omega arith), ne-eqb (suc (suc k)) 1 (λ e. omega arith)) (Iff·trans (answers (ltZ n v)) (below n v))
 
 pub relation-fails : (relation : ℕ) (v n : ℤ) → eqb (relationOf relation v n) 1 ≡ false → Holds relation v n → ⊥
 relation-fails relation v n e h = clash (relation-holds relation v n .1 h) e

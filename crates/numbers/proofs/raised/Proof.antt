@@ -5,20 +5,20 @@ use lib.IntN.{pos, _+ℤ_}
 use mir.Syntax.{w64}
 use mir.Val.{SFits, toZ, ofZ}
 use mir.Facts.{toZ-ofZ}
-use Rattle.numbers.proofs.Differences.{raisedOf, raised-is, raised-small}
+use Rattle.numbers.proofs.Differences.{raise, raisedOf, raised-is, raised-small}
 use Rattle.numbers.proofs.Signs.{widened, wide, widened-is}
 use Rattle.numbers.proofs.raised.Statement.{statement}
 use Rattle.numbers.proofs.raised.Tie as tie
 
 module _ (c : tie.Start) where
-  sum-is : widened (c .args .n) +ℤ pos 2147483648 ≡ pos (raisedOf (c .args .n))
+  sum-is : widened (c .args .n) +ℤ pos raise ≡ pos (raisedOf (c .args .n))
   sum-is = rw (widened-is (c .fits .n)) (raised-is (c .args .n) (c .fits .n))
 
-  fits : SFits w64 (widened (c .args .n) +ℤ pos 2147483648)
+  fits : SFits w64 (widened (c .args .n) +ℤ pos raise)
   fits = rw sum-is (record { sfits = omega (arith, raised-small (c .args .n) (c .fits .n)) })
 
   -- what is read back of the sum
-  back : toZ w64 (ofZ w64 (widened (c .args .n) +ℤ pos 2147483648)) ≡ pos (raisedOf (c .args .n))
+  back : toZ w64 (ofZ w64 (widened (c .args .n) +ℤ pos raise)) ≡ pos (raisedOf (c .args .n))
   back = toZ-ofZ fits ∙ sum-is
 
 pub raised-spec : {M : Type 1} → statement M
