@@ -343,7 +343,9 @@ looping =
 
 abbrev pub opsTable : List OpsRow
 opsTable =
-    counting ∷ cutting ∷ reading ∷ waiting ∷ waitingFor ∷ resting ∷ joining ∷ joiningStopped ∷ bySteps ∷ byOrders ∷ testing ∷ looping ∷ []
+    counting ∷ cutting ∷ reading ∷ waiting ∷ waitingFor ∷ resting
+    ∷ joining ∷ joiningStopped ∷ bySteps ∷ byOrders ∷ testing ∷ looping
+    ∷ []
 
 pub as-played : map carriedOut opsTable ≡ opsTable
 unfolding doneFrom obeyed marksIn sumBelow round instant pass turn allDone ticks effectOn tick tickOf waitsFor fromEnd openingBefore
