@@ -1,7 +1,7 @@
 // Reads the books of the input, a line each: the number and the place expected, and the bytes in hexadecimal (`-` for none).
 // Prints what reading each book answers, and whether that is what its line expects.
 use digits::{Number, decimal};
-use hex::{Bytes, LONGEST, read_bytes};
+use hexadecimal::{Bytes, LONGEST, read_bytes};
 use words::{find, first, part, rest};
 
 // The bytes that are kept of the input.

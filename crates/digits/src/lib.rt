@@ -30,7 +30,7 @@ pub fn digit(c: u8) -> u8
 }
 
 // What a word says where a number of 32 bits is expected.
-#[derive(Drop)]
+#[derive(Clone, Copy)]
 pub enum Number {
     Value(u32),
     Wrong,
@@ -87,7 +87,7 @@ fn signed(word: &[u8]) -> Number
 }
 
 // Two numbers with a space between them.
-#[derive(Drop)]
+#[derive(Clone, Copy)]
 pub enum Pair {
     Values(u32, u32),
     Wrong,

@@ -6,7 +6,7 @@ ghost use Rattle.forms.specs.Timed.{timed_count};
 use kinds::{Kind, Step};
 
 // What a step is to the blocks around it.
-#[derive(Drop)]
+#[derive(Clone, Copy)]
 pub enum Form {
     Plain,
     Pausing,

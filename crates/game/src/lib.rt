@@ -22,7 +22,7 @@ pub const STOPPED: u8 = 4;
 // place (0 to its step count), begun or not, and the count left". The last three flags say whether it is in the sets to stop, suspend and
 // resume.
 #[repr(C)]
-#[derive(Drop)]
+#[derive(Clone, Copy)]
 pub struct Routine {
     pub stage: u8,
     // "Places are counted from the routine's own first step." It is the step that the routine goes on with; "An ended routine's place is
@@ -41,7 +41,7 @@ pub struct Routine {
 // A game: the numbers R, E and C, the routines, the counters, the playing order (the paper's actual), those to start (to_start), and the
 // signals to broadcast (to_broadcast). In a game that fits its book nothing is kept beyond R, E and C or behind a list's length.
 #[repr(C)]
-#[derive(Drop)]
+#[derive(Clone, Copy)]
 pub struct Game {
     pub counts: Counts,
     pub routines: [Routine; MOST_ROUTINES],
@@ -53,7 +53,7 @@ pub struct Game {
 
 // What set-up, an order and reading a stored game answer: the verdict, and the game, which is as lent after a refusal.
 #[repr(C)]
-#[derive(Drop)]
+#[derive(Clone, Copy)]
 pub struct Outcome {
     pub verdict: Verdict,
     pub game: Game,

@@ -9,7 +9,7 @@ mod stores;
 ghost use Rattle.std.specs.Prelude.{◌≤◌, length};
 
 use game::blank_game;
-use hex::LONGEST;
+use hexadecimal::LONGEST;
 use pieces::{keep_from, whole_lines};
 use rounds::round;
 use scripts::{Poked, command, take_book, unpoked};
@@ -25,7 +25,7 @@ const MOST_PIECES: usize = 4294967296;
 const NO_COMMAND: u8 = b'?';
 
 // How many bytes the current book has, and the current game.
-#[derive(Drop)]
+#[derive(Clone, Copy)]
 struct State {
     count: usize,
     poked: Poked,

@@ -1,7 +1,7 @@
 // Games that are stored in a buffer, and read from bytes.
 use crate::buffers::{UNTOUCHED, check_rest};
 use digits::{Number, decimal};
-use hex::{Bytes, LONGEST, read_bytes};
+use hexadecimal::{Bytes, LONGEST, read_bytes};
 use scripts::{Poked, lent, print_bytes, print_verdict, print_wrong, replaced};
 use storing::Stored;
 use words::part;

@@ -26,7 +26,7 @@ const MOST_MARK_NUMBERS: usize = NUMBERS_PER_PAIR * MOST_STEPS;
 // What a round of a kept game answers: the verdict, the stored game's new length, the passes, the count of marks, and how much its
 // additions cut off.
 #[repr(C)]
-#[derive(Drop)]
+#[derive(Clone, Copy)]
 pub struct Round {
     pub verdict: Verdict,
     pub length: usize,

@@ -6,7 +6,7 @@ ghost use Rattle.kinds.specs.Limits.{field_limits, number_limits, limits_of, dec
 use numbers::{HIGHEST, LOWEST};
 
 // The 21 kinds. Indexes, relations and counts are ready to use: a count of 0 or less is 0.
-#[derive(Drop)]
+#[derive(Clone, Copy)]
 pub enum Kind {
     Mark(i32),
     Set(usize, i32),
@@ -35,14 +35,14 @@ pub enum Kind {
 pub const STEP_BYTES: usize = 8;
 
 // A step: of some kind, or turned down.
-#[derive(Drop)]
+#[derive(Clone, Copy)]
 pub enum Step {
     Kind(Kind),
     Refused,
 }
 
 // A step's fields: op, a, b and n.
-#[derive(Drop)]
+#[derive(Clone, Copy)]
 pub struct Fields {
     pub op: u8,
     pub a: u8,
@@ -52,7 +52,7 @@ pub struct Fields {
 
 // The numbers R, E and C of a book.
 #[repr(C)]
-#[derive(Drop)]
+#[derive(Clone, Copy)]
 pub struct Counts {
     pub routines: usize,
     pub signals: usize,

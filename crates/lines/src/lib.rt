@@ -7,7 +7,7 @@ pub const MOST_ENTRIES: usize = 64;
 
 // A list of routines: its first `len` entries.
 #[repr(C)]
-#[derive(Drop)]
+#[derive(Clone, Copy)]
 pub struct Line {
     pub items: [u8; MOST_ENTRIES],
     pub len: usize,

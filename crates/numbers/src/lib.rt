@@ -21,7 +21,7 @@ const RAISE: i64 = 2147483648;
 const HIGHEST_BIT: usize = 9223372036854775808;
 
 // What an addition to a counter gives: the sum, and what was cut off, the distance between the true sum and the one given.
-#[derive(Drop)]
+#[derive(Clone, Copy)]
 pub struct Sum {
     pub sum: i32,
     pub lost: u32,

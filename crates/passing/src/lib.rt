@@ -22,14 +22,14 @@ use turns::turn;
 const MOST_PASSES: usize = 2 + MOST_STEPS + MOST_ROUTINES;
 
 // What a pass has counted, and whether a routine is to be continued behind it, 1 or 0.
-#[derive(Drop)]
+#[derive(Clone, Copy)]
 pub struct Passed {
     pub tally: Tally,
     pub continued: usize,
 }
 
 // What the passes of a round have counted, and how many they are.
-#[derive(Drop)]
+#[derive(Clone, Copy)]
 pub struct Passes {
     pub tally: Tally,
     pub passes: usize,

@@ -26,7 +26,7 @@ use tables::{
 use ticking::tick;
 
 // How a turn's steps end, where they leave the routine, and what they have counted.
-#[derive(Drop)]
+#[derive(Clone, Copy)]
 pub struct StepsTaken {
     pub ending: Ending,
     pub position: Position,
@@ -34,7 +34,7 @@ pub struct StepsTaken {
 }
 
 // What a pass does with a routine, and what is counted then.
-#[derive(Drop)]
+#[derive(Clone, Copy)]
 pub struct Turned {
     pub turn: Turn,
     pub tally: Tally,

@@ -28,7 +28,7 @@ pub const LONGEST_LISTING: usize = MOST_ROUNDS
     * (LONGEST_ROUND_LINE + LONGEST_MARK_LINE * MOST_STEPS);
 
 // A play behind a round: its game, and how many bytes of the buffer are used.
-#[derive(Drop)]
+#[derive(Clone, Copy)]
 struct After {
     game: Game,
     used: usize,

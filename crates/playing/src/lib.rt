@@ -48,7 +48,7 @@ const MANY_NUMBERS: usize = NUMBERS_PER_PAIR * MOST_STEPS;
 
 // What playing a round answers: the verdict, the game, the passes, the count of marks, and how much its additions cut off.
 #[repr(C)]
-#[derive(Drop)]
+#[derive(Clone, Copy)]
 pub struct Played {
     pub verdict: Verdict,
     pub game: Game,

@@ -14,7 +14,7 @@ const DEEPEST: usize = 16;
 // What reading a block finds: that it goes to the routine's end, or the marker that stops it, or a fault; the place, whether the block
 // pauses, and the lowest while so far whose body does not (the routine's step count where there is none). Of a fault only the place
 // counts; every case has the same fields, so that they need not be moved.
-#[derive(Drop)]
+#[derive(Clone, Copy)]
 pub enum Found {
     Past(usize, bool, usize),
     AtElse(usize, bool, usize),

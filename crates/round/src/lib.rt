@@ -3,7 +3,7 @@ use numbers::Sum;
 
 // How a turn ends: the routine has ended, rested, rested because what its step asks for was missing, or is to be continued. The two ways to
 // rest play alike; they are told apart for those who ask why a routine rests.
-#[derive(Drop)]
+#[derive(Clone, Copy)]
 pub enum Ending {
     Ended,
     Rested,
@@ -12,7 +12,7 @@ pub enum Ending {
 }
 
 // Where a routine stands: its place, begun or not, and the count left.
-#[derive(Drop)]
+#[derive(Clone, Copy)]
 pub struct Position {
     pub place: usize,
     pub begun: bool,
@@ -21,7 +21,7 @@ pub struct Position {
 
 // What a step changes: nothing, a mark that it leaves, a counter that gets a number or a sum, a signal given without or with a number,
 // a routine that it starts, stops, suspends or resumes.
-#[derive(Drop)]
+#[derive(Clone, Copy)]
 pub enum Effect {
     Nothing,
     Mark(i32),
@@ -36,14 +36,14 @@ pub enum Effect {
 }
 
 // What a step comes to: the turn goes on at a place once the effect is there, or it ends and leaves the routine at a position.
-#[derive(Drop)]
+#[derive(Clone, Copy)]
 pub enum Act {
     Goes(usize, Effect),
     Halts(Ending, Position),
 }
 
 // What a pass does with one listed routine: it is passed over, or it takes a turn, which ends so.
-#[derive(Drop)]
+#[derive(Clone, Copy)]
 pub enum Turn {
     PassedOver,
     Took(Ending),

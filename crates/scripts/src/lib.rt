@@ -3,7 +3,7 @@ mod pokes;
 mod printing;
 
 use digits::{Number, Pair, decimal, read_pair};
-use hex::{Bytes, LONGEST, read_bytes};
+use hexadecimal::{Bytes, LONGEST, read_bytes};
 use pokes::poke_field;
 pub use pokes::{Poked, given, lent, replaced, unpoked};
 use printing::print_game;

@@ -18,7 +18,7 @@ const SIGNAL_FLAGS: usize = ROUTINE_FLAGS * MOST_ROUTINES;
 const FLAGS: usize = SIGNAL_FLAGS + MOST_SIGNALS;
 
 // A game, and which of its flags were last overwritten with a number other than 0 and 1.
-#[derive(Drop)]
+#[derive(Clone, Copy)]
 pub struct Poked {
     pub game: Game,
     pub unheld: [bool; FLAGS],

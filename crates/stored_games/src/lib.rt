@@ -20,7 +20,7 @@ pub const WRONG_FORM: u32 = 13;
 pub const SHORT_BUFFER: u32 = 14;
 
 // A form: its number, the bytes of a record and of the set of signals to broadcast, and the most signals that it holds.
-#[derive(Drop)]
+#[derive(Clone, Copy)]
 pub struct Form {
     pub number: usize,
     pub recordsize: usize,
@@ -29,7 +29,7 @@ pub struct Form {
 }
 
 // Where the parts of a stored game behind its records begin, and where the last one ends.
-#[derive(Drop)]
+#[derive(Clone, Copy)]
 pub struct Parts {
     pub counters: usize,
     pub listed: usize,

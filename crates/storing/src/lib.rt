@@ -21,7 +21,7 @@ use verdicts::{UNFIT, Verdict, as_verdict, verdict_of};
 
 // What storing answers: the verdict, and how many bytes are written.
 #[repr(C)]
-#[derive(Drop)]
+#[derive(Clone, Copy)]
 pub struct Stored {
     pub verdict: Verdict,
     pub length: usize,

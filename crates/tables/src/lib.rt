@@ -46,7 +46,7 @@ pub const FIELDS: usize = 3 * MOST_ROUTINES + MOST_ENTRIES;
 
 // What the steps of a round have counted: those to start, the numbers given, the marks and what additions have cut off; and whether the
 // pass has had a move, 1 or 0.
-#[derive(Drop)]
+#[derive(Clone, Copy)]
 pub struct Tally {
     pub starting: usize,
     pub given: usize,

@@ -22,7 +22,7 @@ const SHORT_NAMES: u32 = 12;
 
 // What is answered: the verdict, and how many names are written.
 #[repr(C)]
-#[derive(Drop)]
+#[derive(Clone, Copy)]
 pub struct UnstartedNames {
     pub verdict: Verdict,
     pub count: usize,

@@ -3,7 +3,7 @@ ghost use Rattle.std.specs.Prelude.{◌≡◌};
 ghost use Rattle.verdicts.specs.Verdicts.{refused, verdict_of, ◌orElse◌};
 
 // What reading a book answers: accepted, or the first refusal that applies, with its place where it has one.
-#[derive(Drop)]
+#[derive(Clone, Copy)]
 pub enum BookAnswer {
     Accepted,
     TooShort,
@@ -17,7 +17,7 @@ pub enum BookAnswer {
 
 // A refusal's number and place; both 0 where nothing is turned down.
 #[repr(C)]
-#[derive(Drop)]
+#[derive(Clone, Copy)]
 pub struct Verdict {
     pub number: u32,
     pub place: u32,

@@ -20,7 +20,7 @@ use verdicts::{Verdict, verdict_of};
 
 // A part of a book.
 #[repr(C)]
-#[derive(Drop)]
+#[derive(Clone, Copy)]
 pub struct Part {
     pub offset: usize,
     pub length: usize,

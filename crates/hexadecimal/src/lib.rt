@@ -1,6 +1,6 @@
 // The bytes that words of hexadecimal digits stand for.
 ghost use Rattle.std.specs.Prelude.{◌≡◌, ◌/◌, ◌≤◌, length};
-ghost use Rattle.hex.specs.Hex.{longest, is_hex, written_from, bytes_in, written_in};
+ghost use Rattle.hexadecimal.specs.Hex.{longest, is_hex, written_from, bytes_in, written_in};
 
 use digits::digit;
 use words::is;
@@ -9,7 +9,7 @@ use words::is;
 pub const LONGEST: usize = 16384;
 
 // What a word says where bytes are expected: how many they are.
-#[derive(Drop)]
+#[derive(Clone, Copy)]
 pub enum Bytes {
     Count(usize),
     Wrong,

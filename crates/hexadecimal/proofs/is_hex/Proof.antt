@@ -1,4 +1,4 @@
--- `hex::is_hex` meets its contract: its three tests are the definition's.
+-- `hexadecimal::is_hex` meets its contract: its three tests are the definition's.
 -- The loop's invariant: the bytes that were passed are digits. The measure is the bytes left.
 use Prim.Native.Nat.{ℕ, ◌-◌, ◌/◌, ◌%◌, ◌≤◌, ◌<◌}
 use mathlib.Core.Bool.{true, false}
@@ -10,9 +10,9 @@ use borrow.Author.Rules.{rules}
 use borrow.Author.Tests.{lt-ltb, le-ltb, le-leb, lt-leb, eq-eqb, ne_eqb}
 use Rattle.numbers.specs.Counting.{all_below}
 use Rattle.numbers.proofs.Below.{all_fails, all_next, all_ends}
-use Rattle.hex.specs.Hex.{longest, is_digit_at, is_hex}
-use Rattle.hex.proofs.is_hex.Statement.{statement}
-use Rattle.hex.proofs.is_hex.Tie as tie
+use Rattle.hexadecimal.specs.Hex.{longest, is_digit_at, is_hex}
+use Rattle.hexadecimal.proofs.is_hex.Statement.{statement}
+use Rattle.hexadecimal.proofs.is_hex.Tie as tie
 
 module _ (word : List ℕ) where
   empty : length word ≡ 0 → false ≡ is_hex word

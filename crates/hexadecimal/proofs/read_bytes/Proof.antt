@@ -1,4 +1,4 @@
--- `hex::read_bytes` meets its contract: its two tests are the definition's, and `fill` puts the bytes into the buffer.
+-- `hexadecimal::read_bytes` meets its contract: its two tests are the definition's, and `fill` puts the bytes into the buffer.
 -- A word that stands for bytes stands for at most so many as the buffer holds, as `fill` requires.
 use Prim.Native.Nat.{ℕ, ◌/◌, ◌%◌, ◌≤◌}
 use mathlib.Core.Bool.{true, false, ◌&&◌}
@@ -9,14 +9,14 @@ use lib.Dec.{eqb, ltb, leb}
 use lib.ListN.{length}
 use borrow.Author.Rules.{rules}
 use borrow.Author.Tests.{leb-true}
-use Rattle.hex.specs.declared.Bytes.TheVariants as bytes
+use Rattle.hexadecimal.specs.declared.Bytes.TheVariants as bytes
 use Rattle.digits.specs.Digits.{minus}
-use Rattle.hex.specs.Hex.{longest, is_digit_at, is_hex, written_from, bytes_in, written_in}
+use Rattle.hexadecimal.specs.Hex.{longest, is_digit_at, is_hex, written_from, bytes_in, written_in}
 use Rattle.words.specs.Words.{is_same}
 use Rattle.numbers.specs.Counting.{all_below}
 use Rattle.numbers.proofs.Tests.{and_both}
-use Rattle.hex.proofs.read_bytes.Statement.{statement}
-use Rattle.hex.proofs.read_bytes.Tie as tie
+use Rattle.hexadecimal.proofs.read_bytes.Statement.{statement}
+use Rattle.hexadecimal.proofs.read_bytes.Tie as tie
 
 room : (word : List ℕ) → is_hex word ≡ true → length word / 2 ≤ longest
 unfolding is_hex

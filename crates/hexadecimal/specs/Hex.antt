@@ -4,8 +4,8 @@ use Rattle.numbers.specs.Choice.{if◌then◌else◌}
 use Rattle.numbers.specs.Counting.{all_below}
 use Rattle.words.specs.Words.{is_same}
 use Rattle.digits.specs.Digits.{minus, digit_of}
-use Rattle.hex.specs.declared.Bytes.{Bytes}
-use Rattle.hex.specs.declared.Bytes.TheVariants as bytes
+use Rattle.hexadecimal.specs.declared.Bytes.{Bytes}
+use Rattle.hexadecimal.specs.declared.Bytes.TheVariants as bytes
 
 -- the most bytes that a word may stand for
 abbrev pub longest : ℕ

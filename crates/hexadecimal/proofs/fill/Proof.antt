@@ -1,4 +1,4 @@
--- `hex::fill` meets its contract. The loop's invariant: the bytes left, put into the buffer as it is, give what all of them give
+-- `hexadecimal::fill` meets its contract. The loop's invariant: the bytes left, put into the buffer as it is, give what all of them give
 -- in the buffer as lent, and the count is at most that of all. The measure is the bytes left.
 use Prim.Native.Nat.{ℕ, ◌+◌, ◌-◌, ◌≤◌, ◌<◌}
 use mathlib.Core.List.{List}
@@ -8,9 +8,9 @@ use native.Mathlib.Omega.{arith}
 use lib.ListN.{set}
 use borrow.Author.Rules.{rules}
 use Rattle.numbers.proofs.Left.{more_left}
-use Rattle.hex.specs.Hex.{byte_of, written_from}
-use Rattle.hex.proofs.fill.Statement.{statement}
-use Rattle.hex.proofs.fill.Tie as tie
+use Rattle.hexadecimal.specs.Hex.{byte_of, written_from}
+use Rattle.hexadecimal.proofs.fill.Statement.{statement}
+use Rattle.hexadecimal.proofs.fill.Tie as tie
 
 begins : (word l : List ℕ) (n : ℕ) → written_from word (n - 0) l 0 ≡ written_from word n l 0
 begins word l n = rw (sub-zero n)
