@@ -1,0 +1,66 @@
+-- `directory::routine_steps_lem` meets its contract: a routine that begins past the book's end has the empty part at the book's start, one that
+-- ends past it the rest of the book, and any other lies whole in the book.
+use Prim.Native.Nat.{ℕ, ◌+◌, ◌-◌, ◌*◌, ◌<◌, ◌≤◌}
+use mathlib.Core.Path.{◌≡◌, refl, sym, ◌∙◌}
+use mathlib.Core.List.{List, []}
+use native.Mathlib.Omega.{arith}
+use lib.ListN.{length, take, drop, length-drop, drop_of_length-le}
+use lib.Seq.{take_all, take-nil}
+use borrow.Author.Rules.{rules}
+use borrow.Author.Tests.{lt-leb}
+use Rattle.kinds.specs.Steps.{step_bytes}
+use Rattle.directory.specs.Directory.{step_count, routine_from, routine_part, routine_steps, routine_steps_from}
+use Rattle.numbers.proofs.Parts.{rest_from}
+use Rattle.directory.proofs.Directory.{begins_there, steps_there}
+use Rattle.directory.proofs.routine_steps.Goals as goal
+
+-- where the routine begins, and the bytes of its steps, as the code has them
+module _ (s : List ℕ) (r : ℕ) {from size : ℕ} (begins : from ≡ routine_from s r) (bytes : size ≡ step_bytes * step_count s r) where
+  missing : length s < from → [] ≡ routine_steps s r
+  unfolding routine_part
+  missing h = rw (← begins, drop_of_length-le s {i = from} (omega arith), take-nil)
+
+  missing_from : length s < from → 0 ≡ routine_steps_from s r
+  unfolding routine_steps_from
+  missing_from h = rw (← begins, lt-leb _ _ h)
+
+  there_from : from ≤ length s → from ≡ routine_steps_from s r
+  there_from h = begins ∙ sym (begins_there s r (rw (← begins) h))
+
+  rest : length s < from + size → take (length s - from) (drop from s) ≡ routine_steps s r
+  unfolding routine_part
+  rest h = rest_from s begins ∙ rw (← begins, ← bytes) (sym (take_all size (drop from s) (omega (arith, length-drop from s))))
+
+starts :
+    (c : goal.After-step_count) →
+    let args = c.before.before.before.before.args in
+    c.before.before.steps_from.result-1 + step_bytes * c.before.first_step.result-1 ≡ routine_from args.book.now args.routine
+starts c = rw (c.before.before.steps_from.ensures.0, c.before.first_step.ensures.0)
+
+sized :
+    (c : goal.After-step_count) →
+    let args = c.before.before.before.before.args in
+    step_bytes * c.step_count.result-1 ≡ step_bytes * step_count args.book.now args.routine
+sized c = rw c.step_count.ensures.0
+
+pub returns-then-book-from : goal.returns-then-book-from
+returns-then-book-from c =
+    let at = c.before.before in
+    let args = at.before.before.before.before.args in
+    let past = c.before.if-book-from.true in
+    let from = missing_from args.book.now args.routine (starts at) (sized at) past in
+    (missing args.book.now args.routine (starts at) (sized at) past, (refl, omega (arith, from)))
+
+pub returns-then-book-to : goal.returns-then-book-to
+returns-then-book-to c =
+    let at = c.before.before.before in
+    let args = at.before.before.before.before.args in
+    let from = there_from args.book.now args.routine (starts at) (sized at) c.before.before.if-book-from.false in
+    (rest args.book.now args.routine (starts at) (sized at) c.before.if-book-to.true, (refl, omega (arith, from)))
+
+pub returns : goal.returns
+returns c =
+    let at = c.before.before.before in
+    let args = at.before.before.before.before.args in
+    let from = there_from args.book.now args.routine (starts at) (sized at) c.before.before.if-book-from.false in
+    (steps_there args.book.now args.routine (starts at) (sized at), (refl, omega (arith, from)))

@@ -1,0 +1,22 @@
+-- `slots::left_fits` meets its contract: the code's choice is the contract's, and the count is that of the step at the place, which the
+-- book's limits decode as the table does.
+use borrow.Author.Rules.{rules}
+use Rattle.kinds.proofs.Limits.{step_within_lem}
+use Rattle.fitting.proofs.slots.left_fits.Goals as goal
+
+pub returns-then-x : goal.returns-then-x
+returns-then-x c =
+    let step = c.before.before in
+    let steps = step.before in
+    let taken = steps.before.before in
+    rw (
+      taken.if-x.true,
+      c.timed_count_lem.ensures,
+      step.step_within_lem.ensures,
+      taken.before.before.requires,
+      step_within_lem,
+      steps.routine_steps_lem.ensures.0,
+    )
+
+pub returns-else-x : goal.returns-else-x
+returns-else-x c = rw c.before.if-x.false

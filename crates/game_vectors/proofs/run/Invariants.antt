@@ -1,0 +1,13 @@
+-- `game_vectors::run` is safe and ends. The loop's invariant: the piece is as long as it was lent, and what is kept lies within it.
+-- The measure is the number of pieces that may still be read.
+use Prim.Native.Nat.{◌≤◌}
+use mathlib.Core.Path.{◌≡◌}
+use lib.ListN.{length}
+use borrow.Author.Rules.{rules}
+use Rattle.game_vectors.proofs.run.Given as goal
+
+abbrev pub invariant-loop-left : goal.invariant-loop-left
+invariant-loop-left l = (length l.l.state ≡ length l.initial.l.l.state) × (l.left ≤ length l.l.state)
+
+abbrev pub decreases-loop-left : goal.decreases-loop-left
+decreases-loop-left l = left

@@ -1,0 +1,27 @@
+-- `layout::check_layout` meets its contract: a check that passes drops out of the verdict, and the first that does not is it.
+-- `past_counts` says what is left of the verdict where length and counts have passed: the test of the layout.
+use mathlib.Core.Path.{◌≡◌}
+use borrow.Author.Rules.{rules}
+use borrow.Author.Tests.{le-leb, lt-leb}
+use Rattle.verdicts.specs.Verdicts.{refused, unless}
+use Rattle.layout.specs.Layout.{layout_fits, layout_verdict}
+use Rattle.layout.proofs.check_layout.Goals as goal
+
+past_counts :
+    (c : goal.Then-counts_fit) →
+    let s = c.before.before.before.before.args.book.now in
+    layout_verdict s ≡ unless (layout_fits s) (refused 3 0)
+unfolding layout_verdict
+past_counts c = rw (le-leb _ _ c.before.before.if-book-lt-HEADER_BYTES.false, ← c.before.counts_fit_lem.ensures, c.if-counts_fit.true)
+
+pub returns-then-book-lt-HEADER_BYTES : goal.returns-then-book-lt-HEADER_BYTES
+returns-then-book-lt-HEADER_BYTES c = rw (lt-leb _ _ c.if-book-lt-HEADER_BYTES.true)
+
+pub returns-then-layout_fits : goal.returns-then-layout_fits
+returns-then-layout_fits c = rw (past_counts c.before.before, ← c.before.layout_fits_lem.ensures, c.if-layout_fits.true)
+
+pub returns-else-layout_fits : goal.returns-else-layout_fits
+returns-else-layout_fits c = rw (past_counts c.before.before, ← c.before.layout_fits_lem.ensures, c.if-layout_fits.false)
+
+pub returns-else-counts_fit : goal.returns-else-counts_fit
+returns-else-counts_fit c = rw (le-leb _ _ c.before.before.if-book-lt-HEADER_BYTES.false, ← c.before.counts_fit_lem.ensures, c.if-counts_fit.false)

@@ -1,0 +1,7 @@
+-- `layout::counts_of` meets its contract: each field is the count that its reader ensures.
+use borrow.Author.Rules.{rules}
+use Rattle.layout.proofs.counts_of.Goals as goal
+
+pub returns : goal.returns
+returns c =
+    rw (← c.before.before.routines.ensures.0, ← c.before.signals.ensures.0, ← c.counters.ensures.0)

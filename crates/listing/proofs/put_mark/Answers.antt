@@ -1,0 +1,19 @@
+-- `listing::put_mark` meets its contract: its parts are put one behind another.
+use mir.Facts.{to_z-of_z}
+use borrow.Author.Rules.{rules}
+use Rattle.texts.specs.Texts.{ascii}
+use Rattle.texts.proofs.Behind.{then}
+use Rattle.listing.specs.Listing.{mark_line}
+use Rattle.listing.proofs.put_mark.Goals as goal
+
+pub returns : goal.returns
+unfolding ascii mark_line
+returns c =
+    let number = c.before.before.before.before.before.before.before in
+    let routine = number.before.before.before.before.before in
+    let fits = routine.before.before.before.before.ranges in
+    then _ _ _ _ _
+    (then _ _ _ _ _
+    (rw (to_z-of_z fits.routine) at routine.put_signed_numbered-named.ensures)
+    (rw (to_z-of_z fits.number) at number.put_signed_numbered-numbered.ensures))
+    c.before.before.put.ensures

@@ -1,0 +1,28 @@
+-- `listing::put_marks` meets its contract. The loop's invariant: the lines of the marks that are left, put into the buffer as it is, give
+-- what the lines of all marks give in the buffer as lent. The measure is how many numbers are left.
+use Prim.Native.Nat.{ℕ, suc, ◌+◌, ◌-◌, ◌≤◌, ◌<◌}
+use mathlib.Core.List.{List, [], ◌++◌}
+use mathlib.Core.Path.{◌≡◌, refl, ap, ◌∙◌}
+use native.Mathlib.Numerals.{add-one}
+use native.Mathlib.Omega.{arith}
+use lib.Dec.{ltb}
+use lib.IntN.{ℤ, pos}
+use lib.ListN.{length, get_or, drop, drop_of_length-le}
+use lib.Seq.{drop-cons}
+use mir.Facts.{to_z-of_z}
+use mir.Syntax.{w32}
+use mir.Val.{SFits}
+use borrow.Author.Rules.{rules}
+use borrow.Author.Tests.{ltb-true, ltb-false}
+use Rattle.numbers.proofs.Tests.{by_flag}
+use Rattle.texts.specs.Texts.{filled, with_text}
+use Rattle.texts.proofs.Behind.{then}
+use Rattle.listing.specs.Listing.{mark_line, mark_lines}
+use Rattle.listing.proofs.put_marks.Given as goal
+
+abbrev pub invariant-loop-at : goal.invariant-loop-at
+invariant-loop-at l = (with_text (filled l.out l.end) (mark_lines (drop l.at l.initial.l.out)) ≡ with_text (filled l.l.marks l.marks) (mark_lines l.initial.l.out))
+    × (l.at ≤ length l.initial.l.out) × (length l.out ≡ length l.l.marks)
+
+abbrev pub decreases-loop-at : goal.decreases-loop-at
+decreases-loop-at l = length l.initial.l.out - l.at

@@ -1,0 +1,11 @@
+-- `listing::put_round` meets its contract: the lines of the marks are put behind the round's own.
+use borrow.Author.Rules.{rules}
+use Rattle.texts.proofs.Behind.{then}
+use Rattle.listing.specs.Listing.{round_lines}
+use Rattle.listing.proofs.put_round.Goals as goal
+
+pub returns : goal.returns
+unfolding round_lines
+returns c =
+    let marks = c.before.before in
+    then _ _ _ _ _ marks.before.before.before.before.put_round_line-end.ensures marks.put_marks.ensures

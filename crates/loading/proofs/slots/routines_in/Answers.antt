@@ -1,0 +1,49 @@
+-- `slots::routines_in` meets its contract. The invariant: the first `done` slots are filled.
+use Prim.Native.Nat.{◌+◌, ◌*◌, ◌-◌, ◌≤◌}
+use mathlib.Core.Path.{◌≡◌, ◌∙◌}
+use native.Mathlib.Omega.{arith}
+use borrow.Author.Rules.{rules}
+use lib.ListN.{length, take, drop}
+use Rattle.layout.specs.Layout.{most_routines}
+use Rattle.game.specs.Game.{blank}
+use Rattle.stored_games.specs.Stored.{game_header_bytes}
+use Rattle.stored_games.specs.Reading.{routine_by_record, in_slots}
+use Rattle.loading.proofs.Filling.{slots_none, slots_next, slots_end}
+use Rattle.loading.proofs.Records.{record_within, record_part}
+use Rattle.loading.proofs.slots.routines_in.Goals as goal
+
+pub loop-done-init : goal.loop-done-init
+loop-done-init c = (rw c.blank_routine-blank.ensures (slots_none _ _ _), search rules)
+
+-- the next record lies within the bytes
+within :
+    (c : goal.In-loop-done) →
+    let s = c.before.before.before.before in
+    let size = s.args.form.recordsize in
+    game_header_bytes + size * c.before.loop-done.done + size ≤ length s.args.bytes.now
+within c = let s = c.before.before.before.before in record_within s.args.form s.requires.1.1 c.loop-done-test.true
+
+pub loop-done-preserved : goal.loop-done-preserved
+loop-done-preserved c =
+    let l = c.before.before.before.loop-done in
+    let a = c.before.before.before.before.before.before.args in (
+      slots_next _ _ _ l.done l.invariant.0 (c.routine_by_record.ensures ∙ rw (record_part a.form a.bytes.now l.done)),
+      search rules,
+    )
+
+pub returns : goal.returns
+returns c =
+    let l = c.before.loop-done in
+    slots_end _ _ _ l.invariant.0 l.invariant.1 c.loop-done-test.false
+
+pub overflow_mul-from : goal.overflow_mul-from
+overflow_mul-from c = omega (arith, within c)
+
+pub overflow_add-from : goal.overflow_add-from
+overflow_add-from c = omega (arith, within c)
+
+pub overflow_add-to : goal.overflow_add-to
+overflow_add-to c = omega (arith, within c)
+
+pub slice_bounds-routine_by_record-end : goal.slice_bounds-routine_by_record-end
+slice_bounds-routine_by_record-end c = omega (arith, within c)

@@ -1,0 +1,22 @@
+-- `slots::signals_in` meets its contract. The invariant: the first `done` slots are filled.
+use Prim.Native.Nat.{◌-◌, ◌≤◌}
+use mathlib.Core.Path.{◌≡◌}
+use mathlib.Core.Bool.{false}
+use borrow.Author.Rules.{rules}
+use Rattle.layout.specs.Layout.{most_signals}
+use Rattle.stored_games.specs.Reading.{in_slots, signal_in}
+use Rattle.loading.proofs.Filling.{slots_none, slots_next, slots_end}
+use Rattle.loading.proofs.slots.signals_in.Goals as goal
+
+pub loop-done-init : goal.loop-done-init
+loop-done-init c = (slots_none _ _ _, search rules)
+
+pub loop-done-preserved : goal.loop-done-preserved
+loop-done-preserved c =
+    let l = c.before.before.loop-done in
+    (slots_next _ _ _ l.done l.invariant.0 c.signal_in.ensures, search rules)
+
+pub returns : goal.returns
+returns c =
+    let l = c.before.loop-done in
+    slots_end _ _ _ l.invariant.0 l.invariant.1 c.loop-done-test.false

@@ -1,0 +1,36 @@
+-- `actions::broadcast` meets its contract. The invariant: the signals from `at` on, put into the flags as they are, give what all give at
+-- the start.
+use Prim.Native.Nat.{◌+◌, ◌-◌, ◌≤◌}
+use mathlib.Core.Path.{◌≡◌, refl}
+use native.Mathlib.Omega.{arith}
+use borrow.Author.Rules.{rules}
+use lib.ListN.{length, drop}
+use lib.Seq.{sets}
+use Rattle.layout.specs.Layout.{most_signals}
+use Rattle.tables.specs.Tables.{present_row}
+use Rattle.opening.specs.Actions.{with_signals}
+use Rattle.opening.proofs.Signals.{signal_on, signal_over}
+use Rattle.opening.proofs.actions.broadcast.Goals as goal
+
+long : (c : goal.Start) → length c.args.t1 ≡ most_signals
+long c = search rules
+
+pub loop-at-init : goal.loop-at-init
+unfolding with_signals
+loop-at-init c = (refl, search rules)
+
+pub loop-at-preserved : goal.loop-at-preserved
+loop-at-preserved c =
+    let l = c.before.before.before.loop-at in
+    let s = c.before.before.before.before in
+    let more = c.before.before.loop-at-test.true in (
+      rw (c.put_present.ensures, ← (signal_on s.args.t1 l.flags present_row l.at (omega (arith, long s, more)))) l.invariant.0,
+      omega (arith, more),
+    )
+
+pub returns : goal.returns
+returns c =
+    let l = c.before.loop-at in
+    let s = c.before.before in
+    let over = signal_over s.args.t1 l.flags present_row l.at (omega (arith, long s, c.loop-at-test.false)) in
+    rw over at l.invariant.0

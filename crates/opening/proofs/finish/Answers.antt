@@ -1,0 +1,64 @@
+-- `opening::finish` meets its contract. The invariant: the first `at` routines are the tables' own, the others the lent ones. The tables
+-- have those beyond the first R as they were lent, so at the end all are the tables' own.
+use Prim.Native.Nat.{◌-◌, ◌≤◌, ◌<◌}
+use mathlib.Core.Path.{◌≡◌, refl, sym, ◌∙◌}
+use native.Mathlib.Omega.{arith}
+use borrow.Author.Rules.{rules}
+use lib.ListN.{length}
+use Rattle.layout.specs.Layout.{most_routines}
+use Rattle.game.specs.Game.{blank}
+use Rattle.fitting.proofs.Sizes.{length_mapped}
+use Rattle.numbers.specs.Counting.{list_below}
+use Rattle.tables.specs.Tables.{routine_in}
+use Rattle.numbers.proofs.Lists.{below_length, below_read}
+use Rattle.opening.proofs.Copying.{copied, copy_on, copy_all}
+use Rattle.opening.proofs.finish.Goals as goal
+
+long : (c : goal.Start) → length c.args.lent ≡ most_routines
+long c = search (rules, length_mapped)
+
+pub loop-at-init : goal.loop-at-init
+loop-at-init c = (refl, omega arith)
+
+pub routine_at-requires : goal.routine_at-requires
+routine_at-requires c =
+    let p = c.before.before.requires in
+    (p.stages c.before.loop-at.at c.loop-at-test.true, p.places c.before.loop-at.at c.loop-at-test.true)
+
+pub bounds-routines-at : goal.bounds-routines-at
+bounds-routines-at c = omega (arith, c.before.loop-at-test.true, c.before.before.before.requires.few)
+
+pub loop-at-smaller : goal.loop-at-smaller
+loop-at-smaller c = omega (arith, c.before.loop-at-test.true)
+
+pub loop-at-preserved : goal.loop-at-preserved
+loop-at-preserved c =
+    let l = c.before.before.loop-at in
+    let s = c.before.before.before in
+    let more = c.before.loop-at-test.true in
+    let near : l.at < most_routines = omega (arith, more, s.requires.few) in
+    let routine = routine_in s.args.flags.now s.args.fields.now in
+    let is = c.routine_at.ensures ∙ sym (below_read most_routines routine l.at blank near) in
+    let size = below_length most_routines routine in
+    let on = copy_on (list_below most_routines routine) s.args.lent l.at blank in (
+      rw (l.invariant.0, is) (on (omega (arith, near, size)) (omega (arith, near, long s))),
+      omega (arith, more),
+    )
+
+pub starting_line-requires : goal.starting_line-requires
+starting_line-requires c = let p = c.before.before.requires in ((p.short, p.fields_long), (p.entries, p.entries_beyond))
+
+pub returns : goal.returns
+returns c =
+    let l = c.before.before.loop-at in
+    let s = c.before.before.before in
+    let routine = routine_in s.args.flags.now s.args.fields.now in
+    let size = below_length most_routines routine in
+    let end : l.at ≡ s.args.counts.routines = omega (arith, l.invariant.1, c.before.loop-at-test.false) in
+    let all =
+    copy_all (list_below most_routines routine) s.args.lent l.at blank (long s ∙ sym size)
+    (λ i h k.
+    let near : i < most_routines = omega (arith, size, k) in
+    sym (s.requires.beyond i (omega (arith, h, end)) near) ∙ sym (below_read most_routines routine i blank near))
+    in
+    rw (l.invariant.0, all, c.starting_line.ensures)

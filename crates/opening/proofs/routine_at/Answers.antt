@@ -1,0 +1,17 @@
+-- `opening::routine_at` meets its contract: each field is read from its row.
+use borrow.Author.Rules.{rules}
+use Rattle.opening.proofs.routine_at.Goals as goal
+
+pub returns : goal.returns
+returns c =
+    let b = c.before.before.before.before.before in
+    rw (
+      c.flag_at-resuming.ensures,
+      c.before.flag_at-suspending.ensures,
+      c.before.before.flag_at-stopping.ensures,
+      c.before.before.before.flag_at-begun.ensures,
+      c.before.before.before.before.flag_at-suspended.ensures,
+      b.field_at-left.ensures.0,
+      b.before.field_at-place.ensures.0,
+      b.before.before.field_at-stage.ensures.0,
+    )

@@ -1,0 +1,57 @@
+-- `partners::partner` meets its contract. The loop's invariant: the search from where the code is, as deep as it is, finds what
+-- the whole search finds. Each arm takes one step of it. The depth fits, since it is at most the number of steps passed.
+use Prim.Native.Nat.{ℕ, ◌+◌, ◌-◌, ◌<◌, ◌≤◌}
+use mathlib.Core.Path.{◌≡◌, sym, ◌∙◌}
+use mathlib.Core.List.{List}
+use mathlib.Core.Logic.{⊎_elim, inl, inr}
+use native.Mathlib.Nat.{sub-eq-zero_of_le}
+use native.Mathlib.Omega.{arith}
+use borrow.Author.Rules.{rules}
+use borrow.Author.Tests.{ne_eqb}
+use Rattle.numbers.proofs.Left.{more_left}
+use Rattle.kinds.specs.Steps.{steps_in, op_at}
+use Rattle.partners.specs.Partners.{partner_by, partner_of}
+use Rattle.partners.proofs.partner.Goals as goal
+
+-- the search for a partner goes on from a place before the last step, and stops behind it
+module _ (s : List ℕ) (n d p : ℕ) where
+  partner_on : p < n → partner_of s (n - p) d p ≡ partner_by (λ e. partner_of s (n - (p + 1)) e (p + 1)) (op_at s p) d p
+  unfolding partner_of
+  partner_on h = rw (more_left h)
+
+  partner_past : n ≤ p → partner_of s (n - p) d p ≡ p
+  unfolding partner_of
+  partner_past h = rw (sub-eq-zero_of_le h)
+
+-- before the last step the invariant, one step on
+step_on : (c : goal.Else-count-at) →
+    let s = c.before.before.args.steps.now in
+    let p = c.before.scan.at in
+    partner_by (λ e. partner_of s (steps_in s - (p + 1)) e (p + 1)) (op_at s p) c.before.scan.depth p
+    ≡ partner_of s (steps_in s - c.before.before.args.first) 0 c.before.before.args.first
+step_on c = sym (partner_on _ _ _ _ c.if-count-at.false) ∙ c.before.scan.invariant.0
+
+pub scan-preserved : goal.scan-preserved
+scan-preserved c =
+    let h = step_on c.before.before in
+    ⊎_elim
+    (λ w. (⊎_elim (λ k. rw w.1 (rw k at h)) (λ k. rw w.1 (rw k at h)) w.0.keys1, omega arith))
+    (⊎_elim
+    (λ w. (rw w.2 (rw (w.0.keys2, ne_eqb _ _ w.1.left) at h), omega arith))
+    (⊎_elim
+    (λ w. (rw w.2 (rw (w.0.keys3, ne_eqb _ _ w.1.left) at h), omega arith))
+    (λ w.
+    let not = w.0.rest in
+    let opens = not.0.0.1 in
+    let same = simp (ne_eqb _ _ (λ e. opens (inl e)), ne_eqb _ _ (λ e. opens (inr e)), ne_eqb _ _ not.0.1, ne_eqb _ _ not.1) at h in
+    (rw w.1 same, omega arith))))
+    c.match-op.branch
+
+pub returns-then-count-at : goal.returns-then-count-at
+returns-then-count-at c = sym (partner_past _ _ _ _ c.if-count-at.true) ∙ c.before.scan.invariant.0
+
+pub returns-then-depth-eq0 : goal.returns-then-depth-eq0
+returns-then-depth-eq0 c = rw (c.before.in-18.is, c.if-depth-eq0.true) at (step_on c.before.before.before)
+
+pub returns-then-depth-eq0-2 : goal.returns-then-depth-eq0-2
+returns-then-depth-eq0-2 c = rw (c.before.in-20.is, c.if-depth-eq0-2.true) at (step_on c.before.before.before)

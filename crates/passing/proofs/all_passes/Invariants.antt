@@ -1,0 +1,14 @@
+-- `all_passes` meets its contract: the passes that are still allowed lead to what all that are allowed led to.
+use Prim.Native.Nat.{◌-◌, ◌<◌}
+use mathlib.Core.Path.{◌≡◌, refl, ◌∙◌}
+use native.Mathlib.Omega.{arith}
+use borrow.Author.Tests.{eq-eqb, ne_eqb}
+use Rattle.round.specs.Rounds.{most_passes}
+use Rattle.passing.proofs.AllPasses.{Among, pass_asks, ends, goes, no_pass}
+use Rattle.passing.proofs.all_passes.Given as goal
+
+abbrev pub invariant-loop-passes : goal.invariant-loop-passes
+invariant-loop-passes l = Among l.book l.order l.initial.l.counters l.initial.l.flags l.initial.l.fields l.initial.l.given l.initial.l.marks l.initial.l.tally l.counters l.flags l.fields l.given l.marks l.tally l.eoi l.passes
+
+abbrev pub decreases-loop-passes : goal.decreases-loop-passes
+decreases-loop-passes l = most_passes - l.passes

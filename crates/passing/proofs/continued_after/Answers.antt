@@ -1,0 +1,19 @@
+-- `continued_after` meets its contract: a turn that is to be continued is the one case that is not done.
+use mathlib.Core.Bool.{and-true, and-false}
+use borrow.Author.Rules.{rules}
+use Rattle.passing.proofs.continued_after.Goals as goal
+
+pub returns-in-PassedOver : goal.returns-in-PassedOver
+returns-in-PassedOver c = rw (c.in-PassedOver.is, and-true)
+
+pub returns-in-Ended : goal.returns-in-Ended
+returns-in-Ended c = rw (c.before.before.before.in-Took.is, c.enum-told2.given.1, and-true)
+
+pub returns-in-Rested : goal.returns-in-Rested
+returns-in-Rested c = rw (c.before.before.before.in-Took.is, c.enum-told3.given.1, and-true)
+
+pub returns-in-Missed : goal.returns-in-Missed
+returns-in-Missed c = rw (c.before.before.before.in-Took.is, c.enum-told4.given.1, and-true)
+
+pub returns-in-Continued : goal.returns-in-Continued
+returns-in-Continued c = rw (c.before.before.before.in-Took.is, c.enum-told5.given.1, and-false)

@@ -1,0 +1,146 @@
+-- `effects::apply` meets its contract, effect by effect: the store that is made does to the state what the effect does.
+use lib.ListN.{length, length-set}
+use Rattle.passing.proofs.Held.{mark_held, put_held, add_held, give_held, give_number_held, start_held}
+use Rattle.passing.proofs.Held.{stop_held, suspend_held, resume_held, still_whole, flag_whole, started_length, start_fits_lem}
+use borrow.Author.Tests.{lt-ltb}
+use mathlib.Core.Path.{refl, ap, ◌∙◌}
+use native.Mathlib.Omega.{arith}
+use mir.Syntax.{w32}
+use mir.Val.{SFits}
+use mir.Facts.{to_z-of_z}
+use Rattle.round.specs.Ticks.{effect_on}
+use Rattle.passing.specs.Effects.{marks_put}
+use borrow.Author.Rules.{rules}
+use Rattle.passing.proofs.effects.apply.Goals as goal
+
+-- each effect names what the tables have a place for
+pub put_counter-requires : goal.put_counter-requires
+put_counter-requires c = rw c.before.before.in-Put.is at c.before.before.before.before.requires.1.0
+
+pub put_counter-requires-in-Add : goal.put_counter-requires-in-Add
+put_counter-requires-in-Add c = rw c.before.before.before.in-Add.is at c.before.before.before.before.before.requires.1.0
+
+-- and leaves room for what it cuts off
+pub overflow_add-tally : goal.overflow_add-tally
+overflow_add-tally c =
+    let events = c.before.before.before.before.before.before in
+    let room = rw events.in-Add.is at events.before.before.requires.1.1 in
+    record { fits = omega (arith, room) }
+
+pub put_present-requires : goal.put_present-requires
+put_present-requires c = rw c.before.before.in-Give.is at c.before.before.before.before.requires.1.0
+
+pub put_present-requires-in-GiveNumber : goal.put_present-requires-in-GiveNumber
+put_present-requires-in-GiveNumber c = rw c.before.before.in-GiveNumber.is at c.before.before.before.before.requires.1.0
+
+pub put_pair-requires-in-GiveNumber : goal.put_pair-requires-in-GiveNumber
+put_pair-requires-in-GiveNumber c =
+    let events = c.before.before.before.before in
+    let below = rw events.in-GiveNumber.is at events.before.before.requires.1.0 in
+    omega arith
+
+pub start-requires : goal.start-requires
+start-requires c =
+    let p = c.before.before.before.before.requires in
+    (p.0.starting_fits, rw c.before.before.in-Start.is at p.1.0)
+
+pub returns-in-Nothing : goal.returns-in-Nothing
+unfolding effect_on marks_put
+returns-in-Nothing c =
+    let e = c.in-Nothing.is in
+    (λ g eoi. rw e, (c.before.before.requires.0, rw e))
+
+pub returns-in-Mark : goal.returns-in-Mark
+unfolding marks_put
+returns-in-Mark c =
+    let events = c.before.before.before.before in
+    let e = events.in-Mark.is in
+    let fits : SFits w32 events.in-Mark.n = search rules in
+    let whole = events.before.before.requires.0 in
+    let put = c.before.put_pair.ensures in (
+      λ g eoi. rw e (mark_held g _ _ _ _ _ eoi _ _),
+      (still_whole whole refl refl whole.starting_fits whole.given_fits, rw (e, put.0, put.1, to_z-of_z fits)),
+    )
+
+pub returns-in-Put : goal.returns-in-Put
+unfolding marks_put
+returns-in-Put c =
+    let events = c.before.before.before in
+    let e = events.in-Put.is in
+    let fits : SFits w32 events.in-Put.v = search rules in
+    (λ g eoi. rw (e, c.put_counter.ensures, to_z-of_z fits) (put_held g _ _ _ _ _ eoi _ _), (events.before.before.requires.0, rw e))
+
+pub returns-in-Add : goal.returns-in-Add
+unfolding marks_put
+returns-in-Add c =
+    let events = c.before.before.before.before.before.before in
+    let e = events.in-Add.is in
+    let fits : SFits w32 events.in-Add.v.sum = search rules in
+    let whole = events.before.before.requires.0 in
+    let put = c.before.before.put_counter-in-Add.ensures in (
+      λ g eoi. rw (e, put, to_z-of_z fits) (add_held g _ _ _ _ _ eoi _ _),
+      (still_whole whole refl refl whole.starting_fits whole.given_fits, rw e),
+    )
+
+pub returns-in-Give : goal.returns-in-Give
+unfolding marks_put
+returns-in-Give c =
+    let e = c.before.before.before.in-Give.is in
+    let whole = c.before.before.before.before.before.requires.0 in
+    let put = c.put_present.ensures in (
+      λ g eoi. rw (e, put) (give_held g _ _ _ _ _ eoi _),
+      (still_whole whole (rw (put, length-set)) refl whole.starting_fits whole.given_fits, rw e),
+    )
+
+pub returns-in-GiveNumber : goal.returns-in-GiveNumber
+unfolding marks_put
+returns-in-GiveNumber c =
+    let events = c.before.before.before.before.before.before in
+    let e = events.in-GiveNumber.is in
+    let fits : SFits w32 events.in-GiveNumber.v = search rules in
+    let p = events.before.before.requires in
+    let room = rw e at p.1.1 in
+    let present = c.before.before.before.put_present-in-GiveNumber.ensures in
+    let put = c.before.put_pair-in-GiveNumber.ensures in
+    let count = rw (lt-ltb _ _ room) at put.0 in (
+      λ g eoi. rw (e, present, count, put.1, to_z-of_z fits) (give_number_held g _ _ _ _ _ eoi _ _ room),
+      (still_whole p.0 (rw (present, length-set)) refl p.0.starting_fits (omega (arith, room, count)), rw e),
+    )
+
+pub returns-in-Start : goal.returns-in-Start
+unfolding marks_put
+returns-in-Start c =
+    let e = c.before.before.before.in-Start.is in
+    let p = c.before.before.before.before.before.requires in
+    let (count, fields) = c.start.ensures in (
+      λ g eoi. rw (e, count, fields) (start_held g _ _ _ _ _ eoi _ (rw e at p.1.0)),
+      (
+        still_whole p.0 refl (ap length fields ∙ started_length _ _ _) (rw count (start_fits_lem _ _ _ p.0.starting_fits))
+            p.0.given_fits,
+        rw e,
+      ),
+    )
+
+pub returns-in-Stop : goal.returns-in-Stop
+unfolding marks_put
+returns-in-Stop c =
+    let e = c.before.before.before.in-Stop.is in
+    let p = c.before.before.before.before.before.requires in
+    let put = c.put_flag.ensures in
+    (λ g eoi. rw (e, put) (stop_held g _ _ _ _ _ eoi _ (rw e at p.1.0) p.0.flags_long), (flag_whole _ _ _ p.0 put, rw e))
+
+pub returns-in-Suspend : goal.returns-in-Suspend
+unfolding marks_put
+returns-in-Suspend c =
+    let e = c.before.before.before.in-Suspend.is in
+    let p = c.before.before.before.before.before.requires in
+    let put = c.put_flag-in-Suspend.ensures in
+    (λ g eoi. rw (e, put) (suspend_held g _ _ _ _ _ eoi _ (rw e at p.1.0) p.0.flags_long), (flag_whole _ _ _ p.0 put, rw e))
+
+pub returns-in-Resume : goal.returns-in-Resume
+unfolding marks_put
+returns-in-Resume c =
+    let e = c.before.before.before.in-Resume.is in
+    let p = c.before.before.before.before.before.requires in
+    let put = c.put_flag-in-Resume.ensures in
+    (λ g eoi. rw (e, put) (resume_held g _ _ _ _ _ eoi _ (rw e at p.1.0) p.0.flags_long), (flag_whole _ _ _ p.0 put, rw e))

@@ -1,0 +1,16 @@
+-- `pass` meets its contract: what is left of the playing order leads to what the whole order led to, and the entry at hand is its first.
+use Prim.Native.Nat.{◌-◌, ◌<◌}
+use mathlib.Core.Path.{◌≡◌, refl, ◌∙◌}
+use native.Mathlib.Omega.{arith}
+use lib.ListN.{length}
+use borrow.Author.Rules.{rules}
+use Rattle.lines.specs.Lines.{most_entries, used_of}
+use Rattle.lines.proofs.Entries.{entries_over}
+use Rattle.passing.proofs.OnePass.{Between, turn_asks, goes_on_lem, pass_none}
+use Rattle.passing.proofs.pass.Given as goal
+
+abbrev pub invariant-loop-at : goal.invariant-loop-at
+invariant-loop-at l = Between l.book l.eoi l.l.initial.l.given l.l.initial.marks l.initial.counters l.initial.l.flags l.initial.l.fields l.initial.l.given l.initial.l.tally l.counters l.flags l.fields l.given l.marks l.tally l.continued l.at
+
+abbrev pub decreases-loop-at : goal.decreases-loop-at
+decreases-loop-at l = l.initial.marks - l.at

@@ -1,0 +1,23 @@
+-- `pieces::keep_from` meets its contract. The loop's invariant: so many bytes from the place on stand in front, and the others are
+-- as they were. The measure is the bytes left to move.
+use Prim.Native.Nat.{ℕ, suc, ◌+◌, ◌-◌, ◌≤◌, ◌<◌}
+use mathlib.Core.List.{List}
+use mathlib.Core.Path.{◌≡◌, refl, ap, sym, subst, ◌∙◌}
+use native.Mathlib.Nat.{zero-add, add_comm}
+use native.Mathlib.Numerals.{add-one}
+use native.Mathlib.Omega.{arith}
+use lib.ListN.{length, get_or, set, drop, length-drop, length-set, drop_of_length-le}
+use lib.Seq.{paste, paste-suc, drop-paste, take_all, get_or-drop}
+use borrow.Author.Rules.{rules}
+use Rattle.pieces.specs.Pieces.{to_front}
+use Rattle.pieces.proofs.keep_from.Given as goal
+
+-- the first n bytes from the place on stand in front
+abbrev pub moved : List ℕ → ℕ → ℕ → List ℕ
+moved text from n = paste text 0 (drop from text) n
+
+abbrev pub invariant-loop-at : goal.invariant-loop-at
+invariant-loop-at l = (l.text ≡ moved l.l.count l.count l.at) × (l.at ≤ length l.l.count - l.count) × (length l.text ≡ length l.l.count)
+
+abbrev pub decreases-loop-at : goal.decreases-loop-at
+decreases-loop-at l = l.initial.l.text - l.at

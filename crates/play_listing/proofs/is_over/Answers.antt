@@ -1,0 +1,78 @@
+-- `play_listing::is_over` meets its contract. The loop's invariant: every entry that was passed names a routine that has ended. An entry
+-- past the arrays names none, and a routine that is not there has not ended.
+use Prim.Native.Nat.{ℕ, ◌-◌, ◌≤◌, ◌<◌}
+use mathlib.Core.Path.{◌≡◌, sym}
+use mathlib.Core.Bool.{Bool, true, false}
+use mathlib.Core.List.{List}
+use native.Mathlib.Omega.{arith}
+use borrow.Author.Rules.{rules}
+use borrow.Author.Tests.{eq-eqb, ne_eqb}
+use lib.Dec.{eqb}
+use lib.ListN.{length, get_or, get_or-eq_default}
+use Rattle.numbers.specs.Counting.{all_below}
+use Rattle.numbers.proofs.Below.{all_fails, all_next, all_ends}
+use Rattle.layout.specs.Layout.{most_routines}
+use Rattle.lines.specs.declared.Line.{Line}
+use Rattle.lines.specs.Lines.{item_at, used_of}
+use Rattle.game.specs.declared.Routine.{Routine}
+use Rattle.game.specs.declared.Game.{Game}
+use Rattle.game.specs.Game.{ended, blank}
+use Rattle.fitting.proofs.Sizes.{length_mapped}
+use Rattle.plays.specs.Plays.{is_over}
+use Rattle.play_listing.proofs.is_over.Invariants.{entry_ended}
+use Rattle.play_listing.proofs.is_over.Goals as goal
+
+module _ (g : Game) where
+  abbrev Each : Bool → Type 0
+  Each b = all_below (used_of g.listed-1) (entry_ended g.listed-1 g.routines-1) ≡ b
+
+  starts : (used_of g.starting ≡ 0 → ⊥) → false ≡ is_over g
+  unfolding is_over
+  starts n = rw (ne_eqb _ 0 n)
+
+  starts_none : used_of g.starting ≡ 0 → {b : Bool} → Each b → b ≡ is_over g
+  unfolding is_over
+  starts_none z e = rw (eq-eqb _ 0 z) (sym e)
+
+pub loop-at-init : goal.loop-at-init
+unfolding all_below
+loop-at-init c = search rules
+
+pub returns-then-used-ne0 : goal.returns-then-used-ne0
+returns-then-used-ne0 c = starts c.before.before.args.game (rw c.before.used.ensures.0 at c.if-used-ne0.true)
+
+-- once the first test is passed, none is to start
+none_starts : (c : goal.Else-used-ne0) → used_of c.before.before.args.game.starting ≡ 0
+none_starts c = rw c.before.used.ensures.0 at c.if-used-ne0.false
+
+pub returns-then-routine-ge-MOST_ROUTINES : goal.returns-then-routine-ge-MOST_ROUTINES
+returns-then-routine-ge-MOST_ROUTINES c =
+    let l = c.before.before.before in
+    let first = l.before.before.before.before in
+    let g = first.before.before.args.game in
+    let long : length g.routines-1 ≡ most_routines = search (rules, length_mapped) in
+    let entry = item_at g.listed-1 l.loop-at.at in
+    let past : get_or g.routines-1 entry blank ≡ blank = get_or-eq_default g.routines-1 blank {n = entry} (omega arith) in
+    let within : l.loop-at.at < used_of g.listed-1 = rw l.before.used-all.ensures.0 at c.before.before.loop-at-test.true in
+    starts_none g (none_starts first) (all_fails _ _ l.loop-at.at within (rw past))
+
+pub returns-then-routines-routine-ne-ENDED : goal.returns-then-routines-routine-ne-ENDED
+returns-then-routines-routine-ne-ENDED c =
+    let l = c.before.before.before.before in
+    let first = l.before.before.before.before in
+    let g = first.before.before.args.game in
+    let within : l.loop-at.at < used_of g.listed-1 = rw l.before.used-all.ensures.0 at c.before.before.before.loop-at-test.true in
+    starts_none g (none_starts first) (all_fails _ _ l.loop-at.at within (ne_eqb _ _ c.if-routines-routine-ne-ENDED.true))
+
+pub loop-at-preserved : goal.loop-at-preserved
+loop-at-preserved c =
+    let l = c.before.before.before.before.loop-at in
+    (all_next _ l.at l.invariant.0 (eq-eqb _ _ c.if-routines-routine-ne-ENDED.false), omega arith)
+
+pub returns : goal.returns
+returns c =
+    let l = c.before in
+    let first = l.before.before.before.before in
+    let u = l.before.used-all.ensures.0 in
+    starts_none first.before.before.args.game (none_starts first)
+    (all_ends _ l.loop-at.invariant.0 (rw u at l.loop-at.invariant.1) (rw u at c.loop-at-test.false))

@@ -1,0 +1,12 @@
+-- `scripts::printing::put_numbers` is safe and ends. The loop's invariant: `at` is at most the length.
+-- The measure is what is left of it.
+use Prim.Native.Nat.{◌≤◌, ◌-◌}
+use lib.ListN.{length}
+use borrow.Author.Rules.{rules}
+use Rattle.scripts.proofs.printing.put_numbers.Given as goal
+
+abbrev pub invariant-loop-at : goal.invariant-loop-at
+invariant-loop-at l = l.at ≤ length l.initial.l.line
+
+abbrev pub decreases-loop-at : goal.decreases-loop-at
+decreases-loop-at l = length l.initial.l.line - l.at

@@ -1,0 +1,8 @@
+-- `storing::parts::lists_from` meets its contract: within a book's limits the sum is small.
+use native.Mathlib.Omega.{arith}
+use borrow.Author.Rules.{rules}
+use Rattle.storing.proofs.Room.{lists_near}
+use Rattle.storing.proofs.parts.lists_from.Goals as goal
+
+pub overflow_add-result : goal.overflow_add-result
+overflow_add-result c = let p = c.before.before.requires in omega (arith, lists_near p.0 p.1)

@@ -1,0 +1,44 @@
+-- `storing::parts::put_counters` meets its contract. The invariant: the bytes of the first `done` counters are put. What the machine reads
+-- back of a signed number is the number, since it fits 32 bits.
+use Prim.Native.Nat.{ℕ, ◌-◌, ◌≤◌}
+use mathlib.Core.Path.{refl, ap, ◌∙◌}
+use mathlib.Core.List.{List}
+use native.Mathlib.Omega.{arith}
+use borrow.Author.Rules.{rules}
+use lib.IntN.{ℤ, pos}
+use lib.ListN.{length, get_or}
+use mir.Syntax.{w32}
+use mir.Val.{SFits}
+use mir.Facts.{to_z-of_z}
+use Rattle.numbers.specs.Bytes.{word_bytes, complement}
+use Rattle.stored_games.specs.Bits.{joined_below}
+use Rattle.storing.specs.Puts.{Put}
+use Rattle.storing.proofs.Puts.{joined_starts, joined_next, joined_place, joined_ends}
+use Rattle.storing.proofs.parts.put_counters.Invariants.{counter_bytes_of}
+use Rattle.storing.proofs.parts.put_counters.Goals as goal
+
+pub loop-done-init : goal.loop-done-init
+loop-done-init c = let s = c.before in (joined_starts _ s.args.at s.args.out-1.now (omega (arith, s.requires)), search rules)
+
+pub put-end-requires : goal.put-end-requires
+put-end-requires c =
+    let w = c.before.before in
+    let i = w.before.before.before in
+    let l = i.before.loop-done in
+    let put = l.invariant.0 in
+    let place = joined_place _ l.done put 4 (λ k. refl) in
+    omega (arith, place, put.same_length, ap length w.word_bytes_lem.ensures, i.loop-done-test.true, i.before.before.before.requires.1)
+
+pub loop-done-preserved : goal.loop-done-preserved
+loop-done-preserved c =
+    let w = c.before.before.before.before.before in
+    let i = w.before.before.before in
+    let l = i.before.loop-done in
+    let values = i.before.before.before.args.values.now in
+    let value : SFits w32 (get_or values l.done (pos 0)) = search rules in
+    let bytes = w.word_bytes_lem.ensures ∙ ap word_bytes (rw (to_z-of_z value) at w.before.complement_of.ensures) in
+    let put = rw bytes at c.before.before.put-end.ensures in
+    (joined_next (counter_bytes_of values) l.done l.invariant.0 put, omega (arith, i.loop-done-test.true))
+
+pub returns : goal.returns
+returns c = let l = c.before.loop-done in joined_ends _ l.done l.invariant.0 l.invariant.1 c.loop-done-test.false

@@ -1,0 +1,24 @@
+-- `storing::parts::put_line` meets its contract: the count is put, and behind it the entries that count.
+use mathlib.Core.Path.{◌≡◌}
+use native.Mathlib.Nat.{sub-zero}
+use native.Mathlib.Omega.{arith}
+use borrow.Author.Rules.{rules}
+use lib.ListN.{length}
+use Rattle.lines.specs.Lines.{most_entries}
+use Rattle.stored_games.specs.Stored.{line_bytes}
+use Rattle.storing.proofs.Puts.{then}
+use Rattle.storing.proofs.parts.put_line.Goals as goal
+
+pub slice_bounds-put-end : goal.slice_bounds-put-end
+slice_bounds-put-end c =
+    let u = c.before.before.before.before.before.before in
+    let long : length u.before.before.before.args.line.items-1 ≡ most_entries = search rules in
+    omega (arith, long, u.used-all.ensures.1)
+
+pub returns : goal.returns
+unfolding line_bytes
+returns c =
+    let p = c.before.before in
+    let h = p.before.before.before.before.before.before in
+    let used = h.before.before.used-all in
+    then h.put_half-end.ensures (rw (sub-zero used.result, used.ensures.0) at p.put.ensures)

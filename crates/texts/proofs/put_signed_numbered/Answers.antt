@@ -1,0 +1,10 @@
+-- `texts::put_signed_numbered` meets its contract: the number is put behind the word.
+use mir.Facts.{to_z-of_z}
+use borrow.Author.Rules.{rules}
+use Rattle.texts.proofs.Behind.{then}
+use Rattle.texts.proofs.put_signed_numbered.Goals as goal
+
+pub returns : goal.returns
+returns c =
+    let n = to_z-of_z c.before.before.before.before.before.before.before.before.before.before.ranges.n in
+    then _ _ _ _ _ c.before.before.before.before.before.before.put-end.ensures (rw n at c.before.before.put_signed.ensures)

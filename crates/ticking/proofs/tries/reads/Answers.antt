@@ -1,0 +1,22 @@
+-- `ticking::tries::reads` meets its contract: the pair that is found has the number that is asked for.
+use Prim.Native.Nat.{◌+◌, ◌*◌}
+use lib.IntN.{pos}
+use lib.ListN.{get_or}
+use mir.Syntax.{w32}
+use mir.Val.{SFits}
+use mir.Facts.{to_z-of_z}
+use borrow.Author.Rules.{rules}
+use borrow.Author.Tests.{lt-ltb, le-ltb}
+use Rattle.ticking.proofs.tries.reads.Goals as goal
+
+pub returns-then-at-count : goal.returns-then-at-count
+returns-then-at-count c =
+    let f = c.before.before.before.find-at in
+    let below = c.before.before.if-at-count.true in
+    let fits : SFits w32 (get_or c.before.before.before.before.args.given.now (2 * f.result + 1) (pos 0)) = search rules in
+    rw (← f.ensures.0, lt-ltb _ _ below, ← (f.ensures.1 below), to_z-of_z fits)
+
+pub returns : goal.returns
+returns c =
+    let left = c.before.before.before in
+    rw (← left.before.find-at.ensures.0, le-ltb _ _ left.if-at-count.false, ← c.before.fresh.ensures) c.when_missing.ensures

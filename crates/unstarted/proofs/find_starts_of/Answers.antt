@@ -1,0 +1,6 @@
+-- `unstarted::find_starts_of` meets its contract: the steps that it looks through are the routine's.
+use borrow.Author.Rules.{rules}
+use Rattle.unstarted.proofs.find_starts_of.Goals as goal
+
+pub returns : goal.returns
+returns c = rw c.before.before.before.routine_steps_lem.ensures.0 at c.find_starts.ensures
