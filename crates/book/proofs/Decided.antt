@@ -16,7 +16,7 @@ use Rattle.kinds.specs.declared.Step.TheVariants as step
 use Rattle.blocks.specs.declared.Fault.TheVariants.{Unreadable, Misnested}
 use Rattle.blocks.specs.declared.Walk.{Walk}
 use Rattle.blocks.specs.declared.Walk.TheVariants as walk
-use Rattle.verdicts.specs.Verdicts.{accepted, refused, ◌orElse◌, unless, first_refusal}
+use Rattle.verdicts.specs.Verdicts.{accepted, refused, ◌or_else◌, unless, first_refusal}
 use Rattle.layout.specs.Layout.{header_bytes, counts_fit, layout_fits, layout_verdict, counts_of}
 use Rattle.layout.specs.Layout.{routines_of, steps_of}
 use Rattle.directory.specs.Directory.{first_step, step_count, steps_before, EntriesFollow, entry_verdict, directory_verdict, routine_part}

@@ -12,7 +12,7 @@ use Rattle.kinds.specs.declared.Step.TheVariants as step
 use Rattle.blocks.specs.declared.Fault.TheVariants.{Unreadable, Misnested}
 use Rattle.blocks.specs.declared.Walk.{Walk}
 use Rattle.blocks.specs.declared.Walk.TheVariants as walk
-use Rattle.verdicts.specs.Verdicts.{accepted, refused, ◌orElse◌}
+use Rattle.verdicts.specs.Verdicts.{accepted, refused, ◌or_else◌}
 use Rattle.layout.specs.Layout.{routines_of, steps_of, counts_of}
 use Rattle.directory.specs.Directory.{first_step, step_count, steps_before, directory_verdict, routine_part}
 use Rattle.kinds.specs.Steps.{step_at}

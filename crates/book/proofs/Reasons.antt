@@ -11,7 +11,7 @@ use lib.ListN.{length}
 use borrow.Author.Tests.{leb-true, leb-false, eqb-false}
 use Rattle.numbers.proofs.Tests.{clash}
 use Rattle.verdicts.specs.declared.Verdict.{Verdict}
-use Rattle.verdicts.specs.Verdicts.{accepted, refused, ◌orElse◌, unless}
+use Rattle.verdicts.specs.Verdicts.{accepted, refused, ◌or_else◌, unless}
 use Rattle.layout.specs.Layout.{header_bytes, counts_fit, layout_fits, layout_verdict, routines_of, steps_of}
 use Rattle.directory.specs.Directory.{steps_before, directory_verdict}
 use Rattle.book.specs.Book.{steps_verdict, nesting_verdict, pausing_verdict, book_verdict}

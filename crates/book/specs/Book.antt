@@ -7,7 +7,7 @@ use Rattle.kinds.specs.declared.Step.TheVariants as step
 use Rattle.blocks.specs.declared.Fault.TheVariants.{Unreadable, Misnested}
 use Rattle.blocks.specs.declared.Walk.{Walk}
 use Rattle.blocks.specs.declared.Walk.TheVariants as walk
-use Rattle.verdicts.specs.Verdicts.{accepted, refused, ◌orElse◌, first_refusal}
+use Rattle.verdicts.specs.Verdicts.{accepted, refused, ◌or_else◌, first_refusal}
 use Rattle.layout.specs.Layout.{routines_of, steps_of, steps_from, layout_verdict, counts_of}
 use Rattle.directory.specs.Directory.{first_step, step_count, directory_verdict, routine_from, routine_part, routine_steps}
 use Rattle.kinds.specs.Steps.{step_at}

@@ -6,7 +6,7 @@ use Rattle.numbers.specs.Numbers.{half_at}
 use Rattle.kinds.specs.declared.Step.{Step}
 use Rattle.kinds.specs.Steps.{step_bytes, step_at}
 use Rattle.verdicts.specs.declared.Verdict.{Verdict}
-use Rattle.verdicts.specs.Verdicts.{refused, ◌orElse◌, unless, first_refusal}
+use Rattle.verdicts.specs.Verdicts.{refused, ◌or_else◌, unless, first_refusal}
 use Rattle.layout.specs.Layout.{header_bytes, entry_bytes, routines_of, steps_of, steps_from, counts_of}
 
 -- "Directory: R entries, first step and step count": routine r's entry

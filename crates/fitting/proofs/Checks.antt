@@ -5,7 +5,7 @@ use mathlib.Core.Path.{◌≡◌, refl}
 use mathlib.Core.List.{List}
 use Rattle.numbers.proofs.Tests.{clash, not_true_false, by_flag}
 use Rattle.verdicts.specs.declared.Verdict.{Verdict}
-use Rattle.verdicts.specs.Verdicts.{refused, ◌orElse◌}
+use Rattle.verdicts.specs.Verdicts.{refused, ◌or_else◌}
 use Rattle.book.specs.Book.{book_verdict}
 use Rattle.book.specs.Accepted.{Accepted}
 use Rattle.book.specs.Reasons.{BookReason}

@@ -4,7 +4,7 @@ use Rattle.std.specs.Prelude.{ℕ, ◌≤◌, ◌≡◌, List, [], ◌∷◌, eq
 use Rattle.numbers.specs.Choice.{if◌then◌else◌}
 use Rattle.numbers.specs.Buffers.{with_front}
 use Rattle.verdicts.specs.declared.Verdict.{Verdict}
-use Rattle.verdicts.specs.Verdicts.{◌orElse◌}
+use Rattle.verdicts.specs.Verdicts.{◌or_else◌}
 use Rattle.book.specs.Accepted.{Accepted}
 use Rattle.book.specs.Book.{book_verdict}
 use Rattle.game.specs.declared.Game.{Game}

@@ -3,7 +3,7 @@
 use Rattle.std.specs.Prelude.{ℕ, List, [], eqb, leb, ℤ, length, take}
 use Rattle.numbers.specs.Choice.{if◌then◌else◌}
 use Rattle.verdicts.specs.declared.Verdict.{Verdict}
-use Rattle.verdicts.specs.Verdicts.{◌orElse◌}
+use Rattle.verdicts.specs.Verdicts.{◌or_else◌}
 use Rattle.game.specs.declared.Game.{Game}
 use Rattle.game.specs.declared.Outcome.{Outcome}
 use Rattle.game.specs.Game.{blank_game}

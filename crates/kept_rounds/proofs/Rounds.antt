@@ -10,7 +10,7 @@ use lib.IntN.{ℤ}
 use lib.ListN.{length}
 use Rattle.numbers.specs.Buffers.{with_front}
 use Rattle.numbers.proofs.Tests.{by_test}
-use Rattle.verdicts.specs.Verdicts.{accepted, refused, ◌orElse◌}
+use Rattle.verdicts.specs.Verdicts.{accepted, refused, ◌or_else◌}
 use Rattle.book.specs.Accepted.{Accepted}
 use Rattle.game.specs.declared.Game.{Game}
 use Rattle.game.specs.Game.{blank_game}

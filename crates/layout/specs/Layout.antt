@@ -3,7 +3,7 @@ use Rattle.std.specs.Prelude.{ℕ, ◌+◌, ◌*◌, Bool, ◌&&◌, List, leb, 
 use Rattle.numbers.specs.Numbers.{half_at}
 use Rattle.kinds.specs.Steps.{step_bytes}
 use Rattle.verdicts.specs.declared.Verdict.{Verdict}
-use Rattle.verdicts.specs.Verdicts.{refused, ◌orElse◌, unless}
+use Rattle.verdicts.specs.Verdicts.{refused, ◌or_else◌, unless}
 use Rattle.kinds.specs.declared.Counts.{Counts}
 
 -- "Header of 12 bytes: routines R (1 to 64), steps S (0 to 1,024), signals E (0 to 64), counters C (0 to 64)"

@@ -2,7 +2,7 @@
 use Rattle.std.specs.Prelude.{ℕ, true, List, [], ◌∷◌, ltb, get_or, set}
 use Rattle.kinds.specs.declared.Counts.{Counts}
 use Rattle.verdicts.specs.declared.Verdict.{Verdict}
-use Rattle.verdicts.specs.Verdicts.{refused, ◌orElse◌, unless}
+use Rattle.verdicts.specs.Verdicts.{refused, ◌or_else◌, unless}
 use Rattle.layout.specs.Layout.{counts_of}
 use Rattle.book.specs.Book.{book_verdict}
 use Rattle.game.specs.declared.Game.{Game}

@@ -2,7 +2,7 @@
 ghost use Rattle.std.specs.Prelude.{◌≡◌, ◌+◌, ◌<◌, length};
 ghost use Rattle.numbers.specs.Numbers.{half_limit, half_at};
 ghost use Rattle.kinds.specs.Limits.{limits_of};
-ghost use Rattle.verdicts.specs.Verdicts.{accepted, verdict_of, ◌orElse◌};
+ghost use Rattle.verdicts.specs.Verdicts.{accepted, verdict_of, ◌or_else◌};
 ghost use Rattle.layout.specs.Layout.{routines_of, counts_of, layout_verdict};
 ghost use Rattle.directory.specs.Directory.{directory_verdict};
 ghost use Rattle.book.specs.Book.{steps_verdict, nesting_verdict, pausing_verdict, nesting_at, pausing_at};

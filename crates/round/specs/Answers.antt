@@ -5,7 +5,7 @@ use Rattle.numbers.specs.Choice.{if◌then◌else◌}
 use Rattle.numbers.specs.Counting.{count_below}
 use Rattle.kinds.specs.Steps.{op_at}
 use Rattle.verdicts.specs.declared.Verdict.{Verdict}
-use Rattle.verdicts.specs.Verdicts.{refused, ◌orElse◌, unless}
+use Rattle.verdicts.specs.Verdicts.{refused, ◌or_else◌, unless}
 use Rattle.layout.specs.Layout.{steps_of}
 use Rattle.book.specs.Book.{steps_part, book_verdict}
 use Rattle.game.specs.declared.Game.{Game}

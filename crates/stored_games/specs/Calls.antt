@@ -3,7 +3,7 @@ use Rattle.std.specs.Prelude.{ℕ, List, eqb, leb, length}
 use Rattle.numbers.specs.Choice.{if◌then◌else◌}
 use Rattle.numbers.specs.Buffers.{with_front}
 use Rattle.verdicts.specs.declared.Verdict.{Verdict}
-use Rattle.verdicts.specs.Verdicts.{refused, ◌orElse◌, unless}
+use Rattle.verdicts.specs.Verdicts.{refused, ◌or_else◌, unless}
 use Rattle.book.specs.Book.{book_verdict}
 use Rattle.game.specs.declared.Game.{Game}
 use Rattle.game.specs.declared.Outcome.{Outcome}

@@ -7,7 +7,7 @@ use Rattle.numbers.specs.Buffers.{with_front}
 use Rattle.kinds.specs.Ops.{op_start}
 use Rattle.kinds.specs.Steps.{op_at, field_a, steps_in}
 use Rattle.verdicts.specs.declared.Verdict.{Verdict}
-use Rattle.verdicts.specs.Verdicts.{refused, ◌orElse◌, unless}
+use Rattle.verdicts.specs.Verdicts.{refused, ◌or_else◌, unless}
 use Rattle.layout.specs.Layout.{most_routines, routines_of}
 use Rattle.directory.specs.Directory.{routine_steps}
 use Rattle.book.specs.Book.{book_verdict}

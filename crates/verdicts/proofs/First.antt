@@ -8,7 +8,7 @@ use native.Mathlib.Decide.{ℕ_discrete}
 use borrow.Author.Tests.{eq-eqb, ne_eqb}
 use Rattle.numbers.proofs.Left.{more_left}
 use Rattle.verdicts.specs.declared.Verdict.{Verdict}
-use Rattle.verdicts.specs.Verdicts.{accepted, refused, ◌orElse◌, first_refusal}
+use Rattle.verdicts.specs.Verdicts.{accepted, refused, ◌or_else◌, first_refusal}
 
 pub or_else_clear : (v w : Verdict) → v.number ≡ 0 → (v or_else w) ≡ w
 or_else_clear v w h = rw (eq-eqb v.number 0 h)

@@ -25,8 +25,8 @@ verdict_of (WrongNesting i) = refused 6 i
 verdict_of (WithoutPause i) = refused 7 i
 
 -- "Checked in this order .. the first that applies is told."
-infixr 2 ◌orElse◌
-abbrev pub ◌orElse◌ : Verdict → Verdict → Verdict
+infixr 2 ◌or_else◌
+abbrev pub ◌or_else◌ : Verdict → Verdict → Verdict
 v or_else w = if eqb v.number 0 then w else v
 
 -- a refusal, unless a test holds

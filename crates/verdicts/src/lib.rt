@@ -1,6 +1,6 @@
 // What reading a book answers, and the number and place that it stands for. Document 01, "Turned down because of the input".
 ghost use Rattle.std.specs.Prelude.{◌≡◌};
-ghost use Rattle.verdicts.specs.Verdicts.{refused, verdict_of, ◌orElse◌};
+ghost use Rattle.verdicts.specs.Verdicts.{refused, verdict_of, ◌or_else◌};
 
 // What reading a book answers: accepted, or the first refusal that applies, with its place where it has one.
 #[derive(Clone, Copy)]

@@ -53,26 +53,26 @@ pub returns-then-d-gt9 : goal.returns-then-d-gt9
 returns-then-d-gt9 c =
     let l = c.before.before.before in
     rw (
-      filled _ l.before.before.if-word-eq0.false,
-      ← l.before.loop-at.invariant.0,
-      no_digit _ _ _ _ c.before.digit-d.ensures.0 l.loop-at-test.true c.if-d-gt9.true,
+      filled _ l.if-word-eq0.false,
+      ← l.loop-at.invariant.0,
+      no_digit _ _ _ _ c.digit-d.ensures.0 l.loop-at-test.true c.if-d-gt9.true,
     )
 
 pub returns-then-value-gt-LARGEST : goal.returns-then-value-gt-LARGEST
 returns-then-value-gt-LARGEST c =
     let l = c.before.before.before.before in
     rw (
-      filled _ l.before.before.if-word-eq0.false,
-      ← l.before.loop-at.invariant.0,
-      too_large _ _ _ _ c.before.before.digit-d.ensures.0 l.loop-at-test.true c.before.if-d-gt9.false c.if-value-gt-LARGEST.true,
+      filled _ l.if-word-eq0.false,
+      ← l.loop-at.invariant.0,
+      too_large _ _ _ _ c.digit-d.ensures.0 l.loop-at-test.true c.if-d-gt9.false c.if-value-gt-LARGEST.true,
     )
 
 pub loop-at-preserved : goal.loop-at-preserved
 loop-at-preserved c =
     let l = c.before.before.before.before in
-    let digit = c.before.before.digit-d.ensures.0 in
-    let on = goes _ l.before.loop-at.value _ _ digit l.loop-at-test.true c.before.if-d-gt9.false c.if-value-gt-LARGEST.false in
-    (sym on ∙ l.before.loop-at.invariant.0, search rules, search rules)
+    let digit = c.digit-d.ensures.0 in
+    let on = goes _ l.loop-at.value _ _ digit l.loop-at-test.true c.if-d-gt9.false c.if-value-gt-LARGEST.false in
+    (sym on ∙ l.loop-at.invariant.0, search rules, search rules)
 
 pub returns : goal.returns
-returns c = rw (filled _ c.before.before.if-word-eq0.false, ← c.before.loop-at.invariant.0, ends _ _ _ c.loop-at-test.false)
+returns c = rw (filled _ c.if-word-eq0.false, ← c.loop-at.invariant.0, ends _ _ _ c.loop-at-test.false)

@@ -11,7 +11,16 @@ use Rattle.numbers.proofs.Parts.{rest_from}
 use Rattle.digits.specs.declared.Number.{Number}
 use Rattle.digits.specs.declared.Number.TheVariants as number
 use Rattle.digits.specs.Digits.{minus, above, below, decimal_of, signed_of}
+use Rattle.digits.proofs.signed.Lts as lts
+use Rattle.digits.proofs.signed.Reads as reads
+use Rattle.digits.proofs.signed.Tie as tie
 use Rattle.digits.proofs.signed.Goals as goal
+
+abbrev After-decimal : Type 0
+After-decimal = lts.After-decimal tie.the-claims reads.Pre reads.Post
+
+abbrev After-decimal-2 : Type 0
+After-decimal-2 = lts.After-decimal2 tie.the-claims reads.Pre reads.Post
 
 empty : (word : List ℕ) → length word ≡ 0 → signed_of word ≡ number.Wrong
 unfolding signed_of decimal_of
@@ -32,36 +41,36 @@ returns-then-word-eq0 c = rw (empty _ c.if-word-eq0.true)
 
 -- behind a minus, and without one, the word says what the digits say
 behind_minus :
-    (c : goal.After-decimal) →
-    signed_of c.before.before.before.before.before.before.args.word.now ≡ below c.decimal.result
-behind_minus c = with_minus _ _ c.before.before.if-word-eq45.true c.decimal.ensures
+    (c : After-decimal) →
+    signed_of c.args.word.now ≡ below c.decimal.result
+behind_minus c = with_minus _ _ c.if-word-eq45.true c.decimal.ensures
 
 no_minus :
-    (c : goal.After-decimal-2) →
-    signed_of c.before.before.before.before.before.args.word.now ≡ above c.decimal-2.result
-no_minus c = without _ _ c.before.if-word-eq45.false c.decimal-2.ensures
+    (c : After-decimal-2) →
+    signed_of c.args.word.now ≡ above c.decimal-2.result
+no_minus c = without _ _ c.if-word-eq45.false c.decimal-2.ensures
 
 pub returns-in_default : goal.returns-in_default
 returns-in_default c = rw (behind_minus c.before.before, c.in_default.is)
 
 pub returns-then-below-gt-LOWEST : goal.returns-then-below-gt-LOWEST
-returns-then-below-gt-LOWEST c = rw (behind_minus c.before.before.before.before, c.before.before.in-Value.is, lt-leb _ _ c.if-below-gt-LOWEST.true)
+returns-then-below-gt-LOWEST c = rw (behind_minus c.before.before.before.before, c.in-Value.is, lt-leb _ _ c.if-below-gt-LOWEST.true)
 
 pub returns-then-below-eq0 : goal.returns-then-below-eq0
 returns-then-below-eq0 c =
     let b = c.before.before.before in
-    rw (behind_minus b.before.before, b.in-Value.is, le-leb _ _ c.before.if-below-gt-LOWEST.false, eq-eqb _ _ c.if-below-eq0.true)
+    rw (behind_minus b.before.before, b.in-Value.is, le-leb _ _ c.if-below-gt-LOWEST.false, eq-eqb _ _ c.if-below-eq0.true)
 
 pub returns-then-word-eq45 : goal.returns-then-word-eq45
 returns-then-word-eq45 c =
     let b = c.before.before.before in
-    rw (behind_minus b.before.before, b.in-Value.is, le-leb _ _ c.before.if-below-gt-LOWEST.false, ne_eqb _ _ c.if-below-eq0.false)
+    rw (behind_minus b.before.before, b.in-Value.is, le-leb _ _ c.if-below-gt-LOWEST.false, ne_eqb _ _ c.if-below-eq0.false)
 
 pub returns-in_default-decimal : goal.returns-in_default-decimal
-returns-in_default-decimal c = rw (no_minus c.before.before, c.enum-told2.given.1)
+returns-in_default-decimal c = rw (no_minus c.before.before, c.in_default-decimal.is)
 
 pub returns-then-value-lt-LOWEST : goal.returns-then-value-lt-LOWEST
-returns-then-value-lt-LOWEST c = rw (no_minus c.before.before.before.before, c.before.before.in-Value-decimal.is, lt-ltb _ _ c.if-value-lt-LOWEST.true)
+returns-then-value-lt-LOWEST c = rw (no_minus c.before.before.before.before, c.in-Value-decimal.is, lt-ltb _ _ c.if-value-lt-LOWEST.true)
 
 pub returns : goal.returns
-returns c = rw (no_minus c.before.before.before.before, c.before.before.in-Value-decimal.is, le-ltb _ _ c.if-value-lt-LOWEST.false)
+returns c = rw (no_minus c.before.before.before.before, c.in-Value-decimal.is, le-ltb _ _ c.if-value-lt-LOWEST.false)

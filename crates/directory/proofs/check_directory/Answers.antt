@@ -52,14 +52,14 @@ loop-routine-init c = (first_begins _ _, refl, search rules, search rules)
 pub returns-then-first_step-sum : goal.returns-then-first_step-sum
 returns-then-first_step-sum c =
     let l = c.before.before.before in
-    stops _ _ _ _ l.loop-routine.invariant.0 l.loop-routine.invariant.1 l.before.routines-all.ensures.0 c.before.before.loop-routine-test.true
-    (λ e. c.if-first_step-sum.true (c.before.first_step.ensures.0 ∙ e))
+    stops _ _ _ _ l.loop-routine.invariant.0 l.loop-routine.invariant.1 l.routines-all.ensures.0 c.loop-routine-test.true
+    (λ e. c.if-first_step-sum.true (c.first_step.ensures.0 ∙ e))
 
 pub loop-routine-preserved : goal.loop-routine-preserved
 loop-routine-preserved c =
     let l = c.before.before.before.before in (
-      goes _ _ _ _ l.loop-routine.invariant.0 l.loop-routine.invariant.1 c.before.before.before.loop-routine-test.true
-          (sym c.before.before.first_step.ensures.0 ∙ c.before.if-first_step-sum.false),
+      goes _ _ _ _ l.loop-routine.invariant.0 l.loop-routine.invariant.1 c.loop-routine-test.true
+          (sym c.first_step.ensures.0 ∙ c.if-first_step-sum.false),
       rw (after, ← c.step_count-sum.ensures.0, ← l.loop-routine.invariant.1),
       search rules,
       search rules,
@@ -67,14 +67,14 @@ loop-routine-preserved c =
 
 searched :
     (c : goal.After-loop-routine) →
-    let book = c.before.before.before.before.args.book.now in
-    directory_verdict book ≡ (if eqb c.before.loop-routine.sum (steps_of book) then accepted else refused 4 c.before.loop-routine.routine)
+    let book = c.args.book.now in
+    directory_verdict book ≡ (if eqb c.loop-routine.sum (steps_of book) then accepted else refused 4 c.loop-routine.routine)
 searched c =
     let l = c.before in
-    ends _ _ _ _ l.loop-routine.invariant.0 l.loop-routine.invariant.1 l.before.routines-all.ensures.0 c.loop-routine-test.false l.loop-routine.invariant.2
+    ends _ _ _ _ l.loop-routine.invariant.0 l.loop-routine.invariant.1 l.routines-all.ensures.0 c.loop-routine-test.false l.loop-routine.invariant.2
 
 pub returns-then-sum-steps : goal.returns-then-sum-steps
-returns-then-sum-steps c = rw (searched c.before.before, ← c.before.steps.ensures.0, ne_eqb _ _ c.if-sum-steps.true)
+returns-then-sum-steps c = rw (searched c.before.before, ← c.steps.ensures.0, ne_eqb _ _ c.if-sum-steps.true)
 
 pub returns : goal.returns
-returns c = rw (searched c.before.before, ← c.before.steps.ensures.0, eq-eqb _ _ c.if-sum-steps.false)
+returns c = rw (searched c.before.before, ← c.steps.ensures.0, eq-eqb _ _ c.if-sum-steps.false)

@@ -6,4 +6,4 @@ use Rattle.directory.proofs.Directory.{entry_missing}
 use Rattle.directory.proofs.first_step.Goals as goal
 
 pub returns-then-book-routine : goal.returns-then-book-routine
-returns-then-book-routine c = (sym (entry_missing c.before.before.args.book.now 0 c.if-book-routine.true), search rules)
+returns-then-book-routine c = (sym (entry_missing c.args.book.now 0 c.if-book-routine.true), search rules)

@@ -33,34 +33,34 @@ module _ (s : List ℕ) (r : ℕ) {from size : ℕ} (begins : from ≡ routine_f
 
 starts :
     (c : goal.After-step_count) →
-    let args = c.before.before.before.before.args in
-    c.before.before.steps_from.result-1 + step_bytes * c.before.first_step.result-1 ≡ routine_from args.book.now args.routine
-starts c = rw (c.before.before.steps_from.ensures.0, c.before.first_step.ensures.0)
+    let args = c.args in
+    c.steps_from.result-1 + step_bytes * c.first_step.result-1 ≡ routine_from args.book.now args.routine
+starts c = rw (c.steps_from.ensures.0, c.first_step.ensures.0)
 
 sized :
     (c : goal.After-step_count) →
-    let args = c.before.before.before.before.args in
+    let args = c.args in
     step_bytes * c.step_count.result-1 ≡ step_bytes * step_count args.book.now args.routine
 sized c = rw c.step_count.ensures.0
 
 pub returns-then-book-from : goal.returns-then-book-from
 returns-then-book-from c =
     let at = c.before.before in
-    let args = at.before.before.before.before.args in
-    let past = c.before.if-book-from.true in
+    let args = at.args in
+    let past = c.if-book-from.true in
     let from = missing_from args.book.now args.routine (starts at) (sized at) past in
     (missing args.book.now args.routine (starts at) (sized at) past, (refl, omega (arith, from)))
 
 pub returns-then-book-to : goal.returns-then-book-to
 returns-then-book-to c =
     let at = c.before.before.before in
-    let args = at.before.before.before.before.args in
-    let from = there_from args.book.now args.routine (starts at) (sized at) c.before.before.if-book-from.false in
-    (rest args.book.now args.routine (starts at) (sized at) c.before.if-book-to.true, (refl, omega (arith, from)))
+    let args = at.args in
+    let from = there_from args.book.now args.routine (starts at) (sized at) c.if-book-from.false in
+    (rest args.book.now args.routine (starts at) (sized at) c.if-book-to.true, (refl, omega (arith, from)))
 
 pub returns : goal.returns
 returns c =
     let at = c.before.before.before in
-    let args = at.before.before.before.before.args in
-    let from = there_from args.book.now args.routine (starts at) (sized at) c.before.before.if-book-from.false in
+    let args = at.args in
+    let from = there_from args.book.now args.routine (starts at) (sized at) c.if-book-from.false in
     (steps_there args.book.now args.routine (starts at) (sized at), (refl, omega (arith, from)))

@@ -19,9 +19,30 @@ use Rattle.fitting.specs.Routines.{slot_fits}
 use Rattle.fitting.specs.Fitting.{same_counts, is_sized, fits_book}
 use Rattle.fitting.proofs.Sizes.{is_sized_lem, length_mapped}
 use Rattle.fitting.proofs.fits.Invariants.{counts}
+use Rattle.fitting.proofs.fits.Lts as lts
+use Rattle.fitting.proofs.fits.Reads as reads
+use Rattle.fitting.proofs.fits.Tie as tie
 use Rattle.fitting.proofs.fits.Goals as goal
 
-sized : (c : goal.Start) → is_sized c.args.t2 ≡ true
+abbrev After-slot_fits : Type 0
+After-slot_fits = lts.After-slot_fits tie.the-claims reads.Pre reads.Post
+
+abbrev Else-not-counters_fit : Type 0
+Else-not-counters_fit = lts.Else4 tie.the-claims reads.Pre reads.Post
+
+abbrev Else-not-line_fits : Type 0
+Else-not-line_fits = lts.Else2 tie.the-claims reads.Pre reads.Post
+
+abbrev Else-not-line_fits-2 : Type 0
+Else-not-line_fits-2 = lts.Else3 tie.the-claims reads.Pre reads.Post
+
+abbrev Else-not-same_counts : Type 0
+Else-not-same_counts = lts.Else1 tie.the-claims reads.Pre reads.Post
+
+abbrev Start : Type 0
+Start = lts.Start tie.the-claims reads.Pre reads.Post
+
+sized : (c : Start) → is_sized c.args.t2 ≡ true
 sized c =
     (is_sized_lem c.args.t2).1
     (record {
@@ -50,8 +71,8 @@ module _ (s : List ℕ) (g : Game) where
   to_signals = to_counters && signals_fit g.broadcast g.counts-1.signals
 
 -- how far the code came: each test is passed behind the one before it
-module _ (c : goal.Else-not-same_counts) where
-  abbrev start : goal.Start
+module _ (c : Else-not-same_counts) where
+  abbrev start : Start
   start = c.before.before.before.before.before.before.before
 
   abbrev book_of : List ℕ
@@ -63,36 +84,36 @@ module _ (c : goal.Else-not-same_counts) where
   past_counts : to_counts book_of game_of_lem ≡ true
   past_counts = sym (counts c.before) ∙ not-false _ c.if-not-same_counts.false
 
-module _ (c : goal.Else-not-line_fits) where
-  abbrev first2 : goal.Else-not-same_counts
+module _ (c : Else-not-line_fits) where
+  abbrev first2 : Else-not-same_counts
   first2 = c.before.before.before
 
   past_listed : to_listed (book_of first2) (game_of_lem first2) ≡ true
-  past_listed = both_true (past_counts first2) (sym c.before.line_fits.ensures.0 ∙ not-false _ c.if-not-line_fits.false)
+  past_listed = both_true (past_counts first2) (sym c.line_fits.ensures.0 ∙ not-false _ c.if-not-line_fits.false)
 
-module _ (c : goal.Else-not-line_fits-2) where
-  abbrev first3 : goal.Else-not-same_counts
+module _ (c : Else-not-line_fits-2) where
+  abbrev first3 : Else-not-same_counts
   first3 = first2 c.before.before.before
 
   past_starting : to_starting (book_of first3) (game_of_lem first3) ≡ true
   past_starting =
-      both_true (past_listed c.before.before.before) (sym c.before.line_fits-2.ensures.0 ∙ not-false _ c.if-not-line_fits-2.false)
+      both_true (past_listed c.before.before.before) (sym c.line_fits-2.ensures.0 ∙ not-false _ c.if-not-line_fits-2.false)
 
-module _ (c : goal.Else-not-counters_fit) where
-  abbrev first4 : goal.Else-not-same_counts
+module _ (c : Else-not-counters_fit) where
+  abbrev first4 : Else-not-same_counts
   first4 = first3 c.before.before.before.before
 
   past_counters : to_counters (book_of first4) (game_of_lem first4) ≡ true
   past_counters =
-      both_true (past_starting c.before.before.before.before) (sym c.before.counters_fit.ensures ∙ not-false _ c.if-not-counters_fit.false)
+      both_true (past_starting c.before.before.before.before) (sym c.counters_fit.ensures ∙ not-false _ c.if-not-counters_fit.false)
 
 module _ (c : goal.Else-not-signals_fit) where
-  abbrev first5 : goal.Else-not-same_counts
+  abbrev first5 : Else-not-same_counts
   first5 = first4 c.before.before.before.before
 
   past_signals : to_signals (book_of first5) (game_of_lem first5) ≡ true
   past_signals =
-      both_true (past_counters c.before.before.before.before) (sym c.before.signals_fit.ensures ∙ not-false _ c.if-not-signals_fit.false)
+      both_true (past_counters c.before.before.before.before) (sym c.signals_fit.ensures ∙ not-false _ c.if-not-signals_fit.false)
 
 pub returns-then-not-same_counts : goal.returns-then-not-same_counts
 unfolding fits_book
@@ -100,19 +121,19 @@ returns-then-not-same_counts c = rw (sym (counts c.before) ∙ not-true _ c.if-n
 
 pub returns-then-not-line_fits : goal.returns-then-not-line_fits
 unfolding fits_book
-returns-then-not-line_fits c = rw (past_counts c.before.before.before, sym c.before.line_fits.ensures.0 ∙ not-true _ c.if-not-line_fits.true)
+returns-then-not-line_fits c = rw (past_counts c.before.before.before, sym c.line_fits.ensures.0 ∙ not-true _ c.if-not-line_fits.true)
 
 pub returns-then-not-line_fits-2 : goal.returns-then-not-line_fits-2
 unfolding fits_book
-returns-then-not-line_fits-2 c = rw (past_listed c.before.before.before, sym c.before.line_fits-2.ensures.0 ∙ not-true _ c.if-not-line_fits-2.true)
+returns-then-not-line_fits-2 c = rw (past_listed c.before.before.before, sym c.line_fits-2.ensures.0 ∙ not-true _ c.if-not-line_fits-2.true)
 
 pub returns-then-not-counters_fit : goal.returns-then-not-counters_fit
 unfolding fits_book
-returns-then-not-counters_fit c = rw (past_starting c.before.before.before.before, sym c.before.counters_fit.ensures ∙ not-true _ c.if-not-counters_fit.true)
+returns-then-not-counters_fit c = rw (past_starting c.before.before.before.before, sym c.counters_fit.ensures ∙ not-true _ c.if-not-counters_fit.true)
 
 pub returns-then-not-signals_fit : goal.returns-then-not-signals_fit
 unfolding fits_book
-returns-then-not-signals_fit c = rw (past_counters c.before.before.before.before, sym c.before.signals_fit.ensures ∙ not-true _ c.if-not-signals_fit.true)
+returns-then-not-signals_fit c = rw (past_counters c.before.before.before.before, sym c.signals_fit.ensures ∙ not-true _ c.if-not-signals_fit.true)
 
 pub loop-at-init : goal.loop-at-init
 unfolding all_below
@@ -120,7 +141,7 @@ loop-at-init c = (refl, search rules)
 
 -- the answer of the call is the contract's test of this slot: the flags tell whether the routine is in either list
 slot :
-    (c : goal.After-slot_fits) →
+    (c : After-slot_fits) →
     let l = c.before.before.before.before in
     let f = first5 l.before.before in
     c.slot_fits.result ≡ slot_fits (book_of f) (game_of_lem f) l.loop-at.at
@@ -129,8 +150,8 @@ slot c =
     let l = c.before.before.before.before in
     let past3 = l.before.before.before.before.before.before.before.before.before.before in
     let past2 = past3.before.before.before in
-    let listed = past2.before.line_fits.ensures.1 (not-false _ past2.if-not-line_fits.false) in
-    let starting = past3.before.line_fits-2.ensures.1 (not-false _ past3.if-not-line_fits-2.false) in
+    let listed = past2.line_fits.ensures.1 (not-false _ past2.if-not-line_fits.false) in
+    let starting = past3.line_fits-2.ensures.1 (not-false _ past3.if-not-line_fits-2.false) in
     let small : l.loop-at.at < byte_limit = omega arith in
     rw (← (listed l.loop-at.at small), ← (starting l.loop-at.at small)) c.slot_fits.ensures
 
@@ -139,13 +160,13 @@ unfolding fits_book
 returns-then-not-slot_fits c =
     let l = c.before.before.before.before.before in
     let fails =
-    all_fails (slot_fits _ _) most_routines l.loop-at.at c.before.before.before.before.loop-at-test.true
+    all_fails (slot_fits _ _) most_routines l.loop-at.at c.loop-at-test.true
     (sym (slot c.before) ∙ not-true _ c.if-not-slot_fits.true) in
     rw (past_signals l.before.before, fails)
 
 pub loop-at-preserved : goal.loop-at-preserved
 loop-at-preserved c =
-    let l = c.before.before.before.before.before.loop-at in
+    let l = c.loop-at in
     (all_next (slot_fits _ _) l.at l.invariant.0 (sym (slot c.before) ∙ not-false _ c.if-not-slot_fits.false), search rules)
 
 pub returns : goal.returns
@@ -159,4 +180,4 @@ returns c =
     )
 
 pub slot_fits-requires : goal.slot_fits-requires
-slot_fits-requires c = c.before.before.before.before.limits_in-limits.ensures
+slot_fits-requires c = c.limits_in-limits.ensures

@@ -30,5 +30,5 @@ decreases-loop-at l = most_routines - l.at
 pub counts :
     (c : goal.After-same_counts) →
     let args = c.before.before.before.before.before.before.args in
-    c.same_counts_lem.result ≡ same_counts args.t2.counts-1 (counts_of args.book.now)
-counts c = rw c.before.Counts-of.ensures at c.same_counts_lem.ensures
+    c.same_counts.result ≡ same_counts args.t2.counts-1 (counts_of args.book.now)
+counts c = rw c.before.Counts-of.ensures at c.same_counts.ensures

@@ -41,13 +41,13 @@ no_count (While a b n) o = refl
 no_count End o = refl
 
 pub returns-in-RestFor : goal.returns-in-RestFor
-returns-in-RestFor c = rw (c.before.before.before.before.in-Kind.is, c.before.in-RestFor.is)
+returns-in-RestFor c = rw (c.in-Kind.is, c.in-RestFor.is)
 
 pub returns-in-WaitFor : goal.returns-in-WaitFor
-returns-in-WaitFor c = rw (c.before.before.before.before.in-Kind.is, c.before.in-WaitFor.is)
+returns-in-WaitFor c = rw (c.in-Kind.is, c.in-WaitFor.is)
 
 pub returns-in-JoinFor : goal.returns-in-JoinFor
-returns-in-JoinFor c = rw (c.before.before.before.before.in-Kind.is, c.before.in-JoinFor.is)
+returns-in-JoinFor c = rw (c.in-Kind.is, c.in-JoinFor.is)
 
 pub returns-in_default-kind : goal.returns-in_default-kind
-returns-in_default-kind c = rw c.before.before.in-Kind.is (no_count c.before.before.in-Kind.kind c.match2.keys4)
+returns-in_default-kind c = rw c.in-Kind.is (no_count c.in-Kind.kind c.match2.keys4)

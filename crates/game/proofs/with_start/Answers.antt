@@ -10,10 +10,10 @@ returns-then-stage-ne-NOT_STARTED c = rw (ne_eqb _ _ c.if-stage-ne-NOT_STARTED.t
 
 pub returns-then-is_in : goal.returns-then-is_in
 unfolding with_start
-returns-then-is_in c = rw (eq-eqb _ _ c.before.before.if-stage-ne-NOT_STARTED.false, ← c.before.is_in_lem.ensures, c.if-is_in.true)
+returns-then-is_in c = rw (eq-eqb _ _ c.if-stage-ne-NOT_STARTED.false, ← c.is_in.ensures, c.if-is_in.true)
 
 pub returns : goal.returns
 unfolding with_start
 returns c =
-    rw (eq-eqb _ _ c.before.before.before.if-stage-ne-NOT_STARTED.false, ← c.before.before.is_in_lem.ensures, c.before.if-is_in.false)
+    rw (eq-eqb _ _ c.if-stage-ne-NOT_STARTED.false, ← c.is_in.ensures, c.if-is_in.false)
     c.push.ensures

@@ -29,8 +29,8 @@ loop-count-init c = (begins _ _ _, omega arith)
 pub loop-count-preserved : goal.loop-count-preserved
 loop-count-preserved c =
     let l = c.before.before.before.before.before in
-    let d = goes _ _ _ _ c.before.before.before.before.loop-count-test.true in
-    (rw (c.digit-low.ensures.0, c.before.before.digit-high.ensures.0) (sym d ∙ l.loop-count.invariant.0), omega arith)
+    let d = goes _ _ _ _ c.loop-count-test.true in
+    (rw (c.digit-low.ensures.0, c.digit-high.ensures.0) (sym d ∙ l.loop-count.invariant.0), omega arith)
 
 pub returns : goal.returns
-returns c = sym (ends _ _ _ _ c.loop-count-test.false) ∙ c.before.loop-count.invariant.0
+returns c = sym (ends _ _ _ _ c.loop-count-test.false) ∙ c.loop-count.invariant.0

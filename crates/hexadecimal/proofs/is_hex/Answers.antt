@@ -36,16 +36,16 @@ pub returns-then-word-eq0 : goal.returns-then-word-eq0
 returns-then-word-eq0 c = empty _ c.if-word-eq0.true
 
 pub returns-then-word-ne0 : goal.returns-then-word-ne0
-returns-then-word-ne0 c = odd _ c.before.if-word-eq0.false c.if-word-ne0.true
+returns-then-word-ne0 c = odd _ c.if-word-eq0.false c.if-word-ne0.true
 
 pub returns-then-word-gt-LONGEST : goal.returns-then-word-gt-LONGEST
-returns-then-word-gt-LONGEST c = long _ c.before.before.if-word-eq0.false c.before.if-word-ne0.false c.if-word-gt-LONGEST.true
+returns-then-word-gt-LONGEST c = long _ c.if-word-eq0.false c.if-word-ne0.false c.if-word-gt-LONGEST.true
 
 -- past the three tests the digits decide
 tested :
     (c : goal.Else-word-gt-LONGEST) →
-    let word = c.before.before.before.before.args.word.now in all_below (length word) (is_digit_at word) ≡ is_hex word
-tested c = digits _ c.before.before.if-word-eq0.false c.before.if-word-ne0.false c.if-word-gt-LONGEST.false
+    let word = c.args.word.now in all_below (length word) (is_digit_at word) ≡ is_hex word
+tested c = digits _ c.if-word-eq0.false c.if-word-ne0.false c.if-word-gt-LONGEST.false
 
 pub loop-at-init : goal.loop-at-init
 unfolding all_below
@@ -54,15 +54,15 @@ loop-at-init c = search rules
 pub returns-then-digit-gt15 : goal.returns-then-digit-gt15
 returns-then-digit-gt15 c =
     let l = c.before.before.before.before in
-    let other = lt-leb _ _ (rw c.before.digit.ensures.0 at c.if-digit-gt15.true) in
-    sym (all_fails _ _ _ c.before.before.before.loop-at-test.true other) ∙ tested l.before
+    let other = lt-leb _ _ (rw c.digit.ensures.0 at c.if-digit-gt15.true) in
+    sym (all_fails _ _ _ c.loop-at-test.true other) ∙ tested l.before
 
 pub loop-at-preserved : goal.loop-at-preserved
 loop-at-preserved c =
     let l = c.before.before.before.before in
-    (all_next _ _ l.loop-at.invariant.0 (le-leb _ _ (rw c.before.digit.ensures.0 at c.if-digit-gt15.false)), omega arith)
+    (all_next _ _ l.loop-at.invariant.0 (le-leb _ _ (rw c.digit.ensures.0 at c.if-digit-gt15.false)), omega arith)
 
 pub returns : goal.returns
 returns c =
-    let l = c.before.loop-at in
+    let l = c.loop-at in
     sym (all_ends _ l.invariant.0 l.invariant.1 c.loop-at-test.false) ∙ tested c.before.before

@@ -9,14 +9,14 @@ use Rattle.keeping.proofs.Kept.{kept_part, kept_short}
 use Rattle.keeping.proofs.is_kept.Goals as goal
 
 pub returns-then-buffer-length : goal.returns-then-buffer-length
-returns-then-buffer-length c = let a = c.before.before.args in sym (kept_short a.buffer.now a.length c.if-buffer-length.true)
+returns-then-buffer-length c = let a = c.args in sym (kept_short a.buffer.now a.length c.if-buffer-length.true)
 
 pub is_formed-requires : goal.is_formed-requires
-is_formed-requires c = rw c.before.form_1.ensures form1_usable
+is_formed-requires c = rw c.form_1.ensures form1_usable
 
 pub returns : goal.returns
 returns c =
     let e = c.before.before.before in
-    let a = e.before.before.args in
+    let a = e.args in
     rw (kept_part a.buffer.now a.length (omega (arith, e.if-buffer-length.false)))
-    (rw (sub-zero a.length, c.before.before.form_1.ensures) at c.is_formed.ensures)
+    (rw (sub-zero a.length, c.form_1.ensures) at c.is_formed.ensures)

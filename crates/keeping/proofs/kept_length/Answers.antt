@@ -10,8 +10,8 @@ pub parts_of-parts-requires : goal.parts_of-parts-requires
 parts_of-parts-requires c = rw c.form_1.ensures form1_usable
 
 -- the end that the code finds is the definition's
-end : (c : goal.After-parts_of-parts) → c.parts_of-parts.result.end ≡ end_in c.before.before.before.before.args.buffer.now
-end c = ap (λ p. p.end) (rw c.before.form_1.ensures at c.parts_of-parts.ensures.0)
+end : (c : goal.After-parts_of-parts) → c.parts_of-parts.result.end ≡ end_in c.args.buffer.now
+end c = ap (λ p. p.end) (rw c.form_1.ensures at c.parts_of-parts.ensures.0)
 
 pub returns-then-verdict-ne0 : goal.returns-then-verdict-ne0
 unfolding kept_length

@@ -12,21 +12,30 @@ use Rattle.stored_games.proofs.Reasons.{load_reason}
 use Rattle.stored_games.proofs.Keeping.{Loadable, load_clauses}
 use Rattle.kept_games.specs.Kept.{kept_in}
 use Rattle.keeping.proofs.Orders.{order_accepted, order_unread, order_refused, order_stored}
+use Rattle.keeping.proofs.order_kept.Lts as lts
+use Rattle.keeping.proofs.order_kept.Reads as reads
+use Rattle.keeping.proofs.order_kept.Tie as tie
 use Rattle.keeping.proofs.order_kept.Goals as goal
 
-abbrev start : goal.Else-read-ne0 → goal.Start
+abbrev After-order-next : Type 0
+After-order-next = lts.After-order tie.the-claims reads.Pre reads.Post
+
+abbrev Start : Type 0
+Start = lts.Start tie.the-claims reads.Pre reads.Post
+
+abbrev start : goal.Else-read-ne0 → Start
 start c = c.before.before.before.before.before.before
 
 -- past the first check the bytes are read as a game that fits
 read : (c : goal.Else-read-ne0) → let a = (start c).args in Loadable form1 a.book.now (kept_in a.buffer-1.now a.length)
 read c =
-    load_clauses (load_reason form1 _ _) (ap (λ (v : Verdict). v.number) (sym c.before.before.kept_verdict-read.ensures) ∙ c.if-read-ne0.false)
+    load_clauses (load_reason form1 _ _) (ap (λ (v : Verdict). v.number) (sym c.kept_verdict-read.ensures) ∙ c.if-read-ne0.false)
 
 -- the order is given to that game
 given :
-    (c : goal.After-order-next) → let a = (start c.before.before.before).args in
+    (c : After-order-next) → let a = (start c.before.before.before).args in
     c.order-next.result ≡ ordered a.book.now (game_in form1 (kept_in a.buffer-1.now a.length)) a.kind a.number
-given c = rw c.before.kept_game-game.ensures at c.order-next.ensures.0
+given c = rw c.kept_game-game.ensures at c.order-next.ensures.0
 
 pub returns-then-read-ne0 : goal.returns-then-read-ne0
 returns-then-read-ne0 c =
@@ -48,12 +57,12 @@ store_fitting-requires c =
     let o = e.before.before.before in
     let fine = order_accepted _ _ _ _ (rw (given o) at e.if-verdict-ne0.false) in
     let fits = o.order-next.ensures.1 (ap (λ p. p.verdict-1) (given o) ∙ fine) in
-    rw c.before.form_1.ensures (form1_usable, ((read o.before.before.before).0, fits))
+    rw c.form_1.ensures (form1_usable, ((read o.before.before.before).0, fits))
 
 pub returns : goal.returns
 returns c =
     let f = c.before.before in
     let e = f.before.before.before in
     let o = e.before.before.before in
-    rw (f.before.before.form_1.ensures, given o) at f.store_fitting.ensures
+    rw (f.form_1.ensures, given o) at f.store_fitting.ensures
     ∙ sym (order_stored _ _ _ _ _ (read o.before.before.before) (rw (given o) at e.if-verdict-ne0.false))

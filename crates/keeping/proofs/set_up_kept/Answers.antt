@@ -10,15 +10,24 @@ use Rattle.setup.specs.SetUp.{set_up}
 use Rattle.stored_games.proofs.Forms.{form1_usable}
 use Rattle.storing.proofs.Answers.{book_refuses}
 use Rattle.kept_games.specs.Kept.{set_up_kept}
+use Rattle.keeping.proofs.set_up_kept.Lts as lts
+use Rattle.keeping.proofs.set_up_kept.Reads as reads
+use Rattle.keeping.proofs.set_up_kept.Tie as tie
 use Rattle.keeping.proofs.set_up_kept.Goals as goal
 
-abbrev start : goal.After-set_up-given → goal.Start
+abbrev After-set_up-given : Type 0
+After-set_up-given = lts.After-set_up tie.the-claims reads.Pre reads.Post
+
+abbrev Start : Type 0
+Start = lts.Start tie.the-claims reads.Pre reads.Post
+
+abbrev start : After-set_up-given → Start
 start c = c.before.before.before.before
 
-given : (c : goal.After-set_up-given) → c.set_up-given.result ≡ set_up (start c).args.book.now blank_game
-given c = rw c.before.blank_game.ensures at c.set_up-given.ensures.0
+given : (c : After-set_up-given) → c.set_up-given.result ≡ set_up (start c).args.book.now blank_game
+given c = rw c.blank_game.ensures at c.set_up-given.ensures.0
 
-told : (c : goal.After-set_up-given) → c.set_up-given.result.verdict ≡ book_verdict (start c).args.book.now
+told : (c : After-set_up-given) → c.set_up-given.result.verdict ≡ book_verdict (start c).args.book.now
 unfolding set_up
 told c = ap (λ o. o.verdict) (given c)
 
@@ -34,10 +43,10 @@ store_fitting-requires c =
     let e = c.before.before in
     let s = e.before.before.before in
     let a = accepted_book e in
-    rw c.before.form_1.ensures (form1_usable, (a, s.set_up-given.ensures.1 (told s ∙ (accepted_exactly _).1 a)))
+    rw c.form_1.ensures (form1_usable, (a, s.set_up-given.ensures.1 (told s ∙ (accepted_exactly _).1 a)))
 
 pub returns : goal.returns
 unfolding set_up_kept
 returns c =
     let f = c.before.before in
-    rw (f.before.before.form_1.ensures, given f.before.before.before.before.before.before) at f.store_fitting.ensures
+    rw (f.form_1.ensures, given f.before.before.before.before.before.before) at f.store_fitting.ensures

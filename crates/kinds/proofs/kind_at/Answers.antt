@@ -9,6 +9,6 @@ use Rattle.kinds.proofs.kind_at.Goals as goal
 pub returns : goal.returns
 unfolding kind_at
 returns c =
-    let read = c.before.before.before.before.fields_at-fields in
+    let read = c.fields_at-fields in
     let n : SFits w32 read.result.n = search rules in
-    rw (to_z-of_z n, read.ensures) at c.kind_of_lem.ensures
+    rw (to_z-of_z n, read.ensures) at c.kind_of.ensures

@@ -15,6 +15,6 @@ returns-then-steps-at c = rw (le-ltb _ _ c.if-steps-at.true)
 pub returns : goal.returns
 unfolding step_within
 returns c =
-    let read = c.before.before.fields_at-fields in
+    let read = c.fields_at-fields in
     let n : SFits w32 read.result.n = search rules in
-    rw (lt-ltb _ _ c.before.before.before.if-steps-at.false, rw (to_z-of_z n, read.ensures) at c.decode.ensures)
+    rw (lt-ltb _ _ c.if-steps-at.false, rw (to_z-of_z n, read.ensures) at c.decode.ensures)

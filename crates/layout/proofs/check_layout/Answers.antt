@@ -9,19 +9,23 @@ use Rattle.layout.proofs.check_layout.Goals as goal
 
 past_counts :
     (c : goal.Then-counts_fit) →
-    let s = c.before.before.before.before.args.book.now in
+    let s = c.args.book.now in
     layout_verdict s ≡ unless (layout_fits s) (refused 3 0)
 unfolding layout_verdict
-past_counts c = rw (le-leb _ _ c.before.before.if-book-lt-HEADER_BYTES.false, ← c.before.counts_fit_lem.ensures, c.if-counts_fit.true)
+past_counts c = rw (le-leb _ _ c.if-book-lt-HEADER_BYTES.false, ← c.counts_fit.ensures, c.if-counts_fit.true)
 
 pub returns-then-book-lt-HEADER_BYTES : goal.returns-then-book-lt-HEADER_BYTES
+unfolding layout_verdict
 returns-then-book-lt-HEADER_BYTES c = rw (lt-leb _ _ c.if-book-lt-HEADER_BYTES.true)
 
 pub returns-then-layout_fits : goal.returns-then-layout_fits
-returns-then-layout_fits c = rw (past_counts c.before.before, ← c.before.layout_fits_lem.ensures, c.if-layout_fits.true)
+unfolding layout_verdict
+returns-then-layout_fits c = rw (past_counts c.before.before, ← c.layout_fits.ensures, c.if-layout_fits.true)
 
 pub returns-else-layout_fits : goal.returns-else-layout_fits
-returns-else-layout_fits c = rw (past_counts c.before.before, ← c.before.layout_fits_lem.ensures, c.if-layout_fits.false)
+unfolding layout_verdict
+returns-else-layout_fits c = rw (past_counts c.before.before, ← c.layout_fits.ensures, c.if-layout_fits.false)
 
 pub returns-else-counts_fit : goal.returns-else-counts_fit
-returns-else-counts_fit c = rw (le-leb _ _ c.before.before.if-book-lt-HEADER_BYTES.false, ← c.before.counts_fit_lem.ensures, c.if-counts_fit.false)
+unfolding layout_verdict
+returns-else-counts_fit c = rw (le-leb _ _ c.if-book-lt-HEADER_BYTES.false, ← c.counts_fit.ensures, c.if-counts_fit.false)

@@ -10,36 +10,36 @@ use Rattle.layout.proofs.counts_fit.Goals as goal
 
 past_routines :
     (c : goal.Else-all-gt-MOST_ROUTINES) →
-    let s = c.before.before.before.before.args.book.now in
+    let s = c.args.book.now in
     counts_fit s ≡ (leb (steps_of s) most_steps && leb (signals_of s) most_signals && leb (counters_of s) most_counters)
-past_routines c = rw (← c.before.before.routines-all.ensures.0, le-leb _ _ c.before.if-all-lt1.false, le-leb _ _ c.if-all-gt-MOST_ROUTINES.false)
+past_routines c = rw (← c.routines-all.ensures.0, le-leb _ _ c.if-all-lt1.false, le-leb _ _ c.if-all-gt-MOST_ROUTINES.false)
 
 past_steps :
     (c : goal.Else-steps-gt-MOST_STEPS) →
-    let s = c.before.before.before.before.before.before.args.book.now in
+    let s = c.args.book.now in
     counts_fit s ≡ (leb (signals_of s) most_signals && leb (counters_of s) most_counters)
-past_steps c = past_routines c.before.before ∙ rw (← c.before.steps.ensures.0, le-leb _ _ c.if-steps-gt-MOST_STEPS.false)
+past_steps c = past_routines c.before.before ∙ rw (← c.steps.ensures.0, le-leb _ _ c.if-steps-gt-MOST_STEPS.false)
 
 past_signals :
     (c : goal.Else-signals-gt-MOST_SIGNALS) →
-    let s = c.before.before.before.before.before.before.before.before.args.book.now in
+    let s = c.args.book.now in
     counts_fit s ≡ leb (counters_of s) most_counters
-past_signals c = past_steps c.before.before ∙ rw (← c.before.signals.ensures.0, le-leb _ _ c.if-signals-gt-MOST_SIGNALS.false)
+past_signals c = past_steps c.before.before ∙ rw (← c.signals.ensures.0, le-leb _ _ c.if-signals-gt-MOST_SIGNALS.false)
 
 pub returns-then-all-lt1 : goal.returns-then-all-lt1
-returns-then-all-lt1 c = rw (← c.before.routines-all.ensures.0, lt-leb _ _ c.if-all-lt1.true)
+returns-then-all-lt1 c = rw (← c.routines-all.ensures.0, lt-leb _ _ c.if-all-lt1.true)
 
 pub returns-then-all-gt-MOST_ROUTINES : goal.returns-then-all-gt-MOST_ROUTINES
-returns-then-all-gt-MOST_ROUTINES c = rw (← c.before.before.routines-all.ensures.0, le-leb _ _ c.before.if-all-lt1.false, lt-leb _ _ c.if-all-gt-MOST_ROUTINES.true)
+returns-then-all-gt-MOST_ROUTINES c = rw (← c.routines-all.ensures.0, le-leb _ _ c.if-all-lt1.false, lt-leb _ _ c.if-all-gt-MOST_ROUTINES.true)
 
 pub returns-then-steps-gt-MOST_STEPS : goal.returns-then-steps-gt-MOST_STEPS
-returns-then-steps-gt-MOST_STEPS c = rw (past_routines c.before.before, ← c.before.steps.ensures.0, lt-leb _ _ c.if-steps-gt-MOST_STEPS.true)
+returns-then-steps-gt-MOST_STEPS c = rw (past_routines c.before.before, ← c.steps.ensures.0, lt-leb _ _ c.if-steps-gt-MOST_STEPS.true)
 
 pub returns-then-signals-gt-MOST_SIGNALS : goal.returns-then-signals-gt-MOST_SIGNALS
-returns-then-signals-gt-MOST_SIGNALS c = rw (past_steps c.before.before, ← c.before.signals.ensures.0, lt-leb _ _ c.if-signals-gt-MOST_SIGNALS.true)
+returns-then-signals-gt-MOST_SIGNALS c = rw (past_steps c.before.before, ← c.signals.ensures.0, lt-leb _ _ c.if-signals-gt-MOST_SIGNALS.true)
 
 pub returns-then-counters-gt-MOST_COUNTERS : goal.returns-then-counters-gt-MOST_COUNTERS
-returns-then-counters-gt-MOST_COUNTERS c = rw (past_signals c.before.before, ← c.before.counters.ensures.0, lt-leb _ _ c.if-counters-gt-MOST_COUNTERS.true)
+returns-then-counters-gt-MOST_COUNTERS c = rw (past_signals c.before.before, ← c.counters.ensures.0, lt-leb _ _ c.if-counters-gt-MOST_COUNTERS.true)
 
 pub returns : goal.returns
-returns c = rw (past_signals c.before.before, ← c.before.counters.ensures.0, le-leb _ _ c.if-counters-gt-MOST_COUNTERS.false)
+returns c = rw (past_signals c.before.before, ← c.counters.ensures.0, le-leb _ _ c.if-counters-gt-MOST_COUNTERS.false)

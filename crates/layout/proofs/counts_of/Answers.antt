@@ -4,4 +4,4 @@ use Rattle.layout.proofs.counts_of.Goals as goal
 
 pub returns : goal.returns
 returns c =
-    rw (← c.before.before.routines.ensures.0, ← c.before.signals.ensures.0, ← c.counters.ensures.0)
+    rw (← c.routines.ensures.0, ← c.signals.ensures.0, ← c.counters.ensures.0)

@@ -6,5 +6,5 @@ pub returns : goal.returns
 returns c =
     let counters = c.before in
     let signals = counters.before in
-    rw (← signals.before.routines.ensures.0, ← signals.signals.ensures.0, ← counters.counters.ensures.0)
+    rw (← signals.routines.ensures.0, ← signals.signals.ensures.0, ← counters.counters.ensures.0)
     c.Limits-of.ensures

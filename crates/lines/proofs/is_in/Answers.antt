@@ -28,15 +28,15 @@ loop-at-init c = (refl, search rules)
 pub returns-then-line-at : goal.returns-then-line-at
 returns-then-line-at c =
     let l = c.before.before.before in
-    found _ _ l.before.used-all.ensures.0 l.loop-at.at c.before.before.loop-at-test.true c.if-line-at.true
+    found _ _ l.used-all.ensures.0 l.loop-at.at c.loop-at-test.true c.if-line-at.true
 
 pub loop-at-preserved : goal.loop-at-preserved
 loop-at-preserved c =
     let l = c.before.before.before in
-    let args = l.before.before.args in
+    let args = l.args in
     (any_next (is_at args.t1 args.routine) l.loop-at.at l.loop-at.invariant.0 (ne_eqb _ _ c.if-line-at.false), search rules)
 
 pub returns : goal.returns
 returns c =
     let l = c.before in
-    none _ _ l.before.used-all.ensures.0 l.loop-at.at l.loop-at.invariant.0 l.loop-at.invariant.1 c.loop-at-test.false
+    none _ _ l.used-all.ensures.0 l.loop-at.at l.loop-at.invariant.0 l.loop-at.invariant.1 c.loop-at-test.false

@@ -43,14 +43,14 @@ loop-at-init c = (refl, omega arith, refl)
 
 pub loop-at-preserved : goal.loop-at-preserved
 loop-at-preserved c =
-    let l = c.before.before.before.before.before.before.before.loop-at in
-    let marks = c.before.before.before.before.before.before.before.before.before.args.marks.now in
+    let l = c.loop-at in
+    let marks = c.args.marks.now in
     let f = filled l.out-1 l.end in
     let one : SFits w32 (get_or marks l.at (pos 0)) = search rules in
     let two : SFits w32 (get_or marks (l.at + 1) (pos 0)) = search rules in
-    let put = rw (to_z-of_z one, to_z-of_z two) at c.before.before.put_mark-end.ensures in (
+    let put = rw (to_z-of_z one, to_z-of_z two) at c.put_mark-end.ensures in (
       then f _ _ _ (mark_lines (drop (l.at + 2) marks)) put refl
-          ∙ ap (λ (t : List ℕ). with_text f t) (next marks l.at c.before.before.before.before.before.before.loop-at-test.true)
+          ∙ ap (λ (t : List ℕ). with_text f t) (next marks l.at c.loop-at-test.true)
           ∙ l.invariant.0,
       omega arith,
       omega arith,
@@ -59,6 +59,6 @@ loop-at-preserved c =
 pub returns : goal.returns
 unfolding with_text
 returns c =
-    let l = c.before.loop-at in
-    let marks = c.before.before.before.args.marks.now in
+    let l = c.loop-at in
+    let marks = c.args.marks.now in
     rw (none marks l.at c.loop-at-test.false l.invariant.1) at l.invariant.0

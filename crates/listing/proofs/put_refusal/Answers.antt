@@ -10,4 +10,4 @@ unfolding ascii refusal_line
 returns c =
     let place = c.before.before.before.before.before.before.before in
     let number = place.before.before.before.before.before.before in
-    then _ _ _ _ _ (then _ _ _ _ _ number.put_numbered-numbered.ensures place.put_numbered-placed.ensures) c.before.before.put.ensures
+    then _ _ _ _ _ (then _ _ _ _ _ number.put_numbered-numbered.ensures place.put_numbered-placed.ensures) c.put.ensures

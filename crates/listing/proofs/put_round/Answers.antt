@@ -8,4 +8,4 @@ pub returns : goal.returns
 unfolding round_lines
 returns c =
     let marks = c.before.before in
-    then _ _ _ _ _ marks.before.before.before.before.put_round_line-end.ensures marks.put_marks.ensures
+    then _ _ _ _ _ marks.put_round_line-end.ensures marks.put_marks.ensures

@@ -13,4 +13,4 @@ returns c =
     let number = passes.before.before.before.before.before in
     then _ _ _ _ _
     (then _ _ _ _ _ (then _ _ _ _ _ number.put_numbered-numbered.ensures passes.put_numbered-passed.ensures) marks.put_numbered-marked.ensures)
-    c.before.before.put.ensures
+    c.put.ensures

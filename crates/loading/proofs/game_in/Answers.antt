@@ -9,19 +9,19 @@ use Rattle.loading.proofs.Inside.{Inside, inside}
 use Rattle.loading.proofs.game_in.Goals as goal
 
 -- the bytes have the form, so their parts are within them
-formed : (c : goal.After-parts_of-parts) → let a = c.before.before.before.args in Formed a.form a.bytes.now
-formed c = (formed_decides _ _).0 c.before.before.before.requires.1
+formed : (c : goal.After-parts_of-parts) → let a = c.args in Formed a.form a.bytes.now
+formed c = (formed_decides _ _).0 c.requires.1
 
-within : (c : goal.After-parts_of-parts) → let a = c.before.before.before.args in Inside a.form a.bytes.now
+within : (c : goal.After-parts_of-parts) → let a = c.args in Inside a.form a.bytes.now
 within c = inside _ _ (formed c).size
 
 pub routines_in-routines-requires : goal.routines_in-routines-requires
 routines_in-routines-requires c =
-    (c.before.before.before.requires.0, rw c.before.counts_in-counts.ensures.0 ((formed c).few_routines, (within c).records))
+    (c.requires.0, rw c.counts_in-counts.ensures.0 ((formed c).few_routines, (within c).records))
 
 pub counters_in-counters-requires : goal.counters_in-counters-requires
 counters_in-counters-requires c =
-    let p = c.before in rw (p.before.counts_in-counts.ensures.0, p.parts_of-parts.ensures.0) ((formed p).few_counters, (within p).counters)
+    let p = c.before in rw (p.counts_in-counts.ensures.0, p.parts_of-parts.ensures.0) ((formed p).few_counters, (within p).counters)
 
 pub line_in-listed-requires : goal.line_in-listed-requires
 line_in-listed-requires c = let p = c.before.before in rw p.parts_of-parts.ensures.0 ((formed p).few_listed, (within p).listed)
@@ -33,7 +33,7 @@ line_in-starting-requires c =
 pub signals_in-broadcast-requires : goal.signals_in-broadcast-requires
 signals_in-broadcast-requires c =
     let p = c.before.before.before.before in (
-      rw p.before.counts_in-counts.ensures.0 (omega (arith, (formed p).few_signals, p.before.before.before.requires.0.signals_kept)),
+      rw p.counts_in-counts.ensures.0 (omega (arith, (formed p).few_signals, p.requires.0.signals_kept)),
       p.parts_of-parts.ensures.1.broadcast,
     )
 
@@ -45,9 +45,9 @@ returns c =
     rw (
       c.signals_in-broadcast.ensures,
       b.line_in-starting.ensures,
-      b.before.line_in-listed.ensures,
-      b.before.before.counters_in-counters.ensures,
-      b.before.before.before.routines_in-routines.ensures,
+      b.line_in-listed.ensures,
+      b.counters_in-counters.ensures,
+      b.routines_in-routines.ensures,
       p.parts_of-parts.ensures.0,
-      p.before.counts_in-counts.ensures.0,
+      p.counts_in-counts.ensures.0,
     )

@@ -9,4 +9,4 @@ pub load_in-requires : goal.load_in-requires
 load_in-requires c = rw c.form_1.ensures form1_usable
 
 pub returns : goal.returns
-returns c = promised (load_fits _ _ _ _) (rw c.before.form_1.ensures at c.load_in.ensures)
+returns c = promised (load_fits _ _ _ _) (rw c.form_1.ensures at c.load_in.ensures)

@@ -10,29 +10,35 @@ use Rattle.book.proofs.Reasons.{number_accepted, accepted_exactly}
 use Rattle.fitting.specs.Fitting.{fits_book}
 use Rattle.stored_games.specs.Reading.{game_in, is_formed}
 use Rattle.stored_games.specs.Calls.{stored_verdict, load_verdict, loaded}
+use Rattle.loading.proofs.load_in.Lts as lts
+use Rattle.loading.proofs.load_in.Reads as reads
+use Rattle.loading.proofs.load_in.Tie as tie
 use Rattle.loading.proofs.load_in.Goals as goal
 
-read : (c : goal.After-verdict_of-verdict) → c.verdict_of-verdict.result ≡ book_verdict c.before.before.before.before.args.book.now
-read c = c.verdict_of-verdict.ensures ∙ c.before.read_book.ensures
+abbrev After-verdict_of-verdict : Type 0
+After-verdict_of-verdict = lts.After-verdict_of tie.the-claims reads.Pre reads.Post
+
+read : (c : After-verdict_of-verdict) → c.verdict_of-verdict.result ≡ book_verdict c.args.book.now
+read c = c.verdict_of-verdict.ensures ∙ c.read_book.ensures
 
 -- past the first check the book is accepted
-book_accepted : (c : goal.Else-verdict-ne0) → book_verdict c.before.before.before.before.before.before.args.book.now ≡ accepted
+book_accepted : (c : goal.Else-verdict-ne0) → book_verdict c.args.book.now ≡ accepted
 book_accepted c =
     let v = c.before.before in (accepted_exactly _).1 (number_accepted _ (rw (read v) at c.if-verdict-ne0.false))
 
 -- past the second the bytes have the form
 formed :
     (c : goal.Else-not-is_formed) →
-    let a = c.before.before.before.before.before.before.before.before.args in
+    let a = c.args in
     is_formed a.form a.bytes.now ≡ true
-formed c = sym c.before.is_formed.ensures ∙ not-false _ c.if-not-is_formed.false
+formed c = sym c.is_formed.ensures ∙ not-false _ c.if-not-is_formed.false
 
 -- the answer of the third check is the contract's
 fitting :
     (c : goal.After-fits2) →
-    let a = c.before.before.before.before.before.before.before.before.before.before.args in
+    let a = c.args in
     fits_book a.book.now (game_in a.form a.bytes.now) ≡ c.fits2.result
-fitting c = sym (rw c.before.game_in_lem.ensures at c.fits2.ensures)
+fitting c = sym (rw c.game_in-next.ensures at c.fits2.ensures)
 
 pub returns-then-verdict-ne0 : goal.returns-then-verdict-ne0
 unfolding load_verdict loaded
@@ -45,10 +51,10 @@ pub returns-then-not-is_formed : goal.returns-then-not-is_formed
 unfolding stored_verdict load_verdict loaded
 returns-then-not-is_formed c =
     let f = c.before.before in
-    rw (c.as_verdict.ensures, book_accepted f.before, sym f.is_formed.ensures ∙ not-true _ c.before.if-not-is_formed.true)
+    rw (c.as_verdict.ensures, book_accepted f.before, sym f.is_formed.ensures ∙ not-true _ c.if-not-is_formed.true)
 
 pub game_in-next-requires : goal.game_in-next-requires
-game_in-next-requires c = (c.before.before.before.before.before.before.before.before.requires, formed c)
+game_in-next-requires c = (c.requires, formed c)
 
 pub returns-then-fits : goal.returns-then-fits
 unfolding stored_verdict load_verdict loaded
@@ -60,7 +66,7 @@ returns-then-fits c =
       book_accepted e.before.before,
       formed e,
       fitting t ∙ c.if-fits.true,
-      t.before.game_in_lem.ensures,
+      t.game_in-next.ensures,
       read v ∙ book_accepted e.before.before,
     )
 
@@ -69,4 +75,4 @@ unfolding stored_verdict load_verdict loaded
 returns c =
     let t = c.before.before in
     let e = t.before.before in
-    rw (c.as_verdict-2.ensures, book_accepted e.before.before, formed e, fitting t ∙ c.before.if-fits.false)
+    rw (c.as_verdict-2.ensures, book_accepted e.before.before, formed e, fitting t ∙ c.if-fits.false)

@@ -7,4 +7,4 @@ pub verdict_in-requires : goal.verdict_in-requires
 verdict_in-requires c = rw c.form_1.ensures form1_usable
 
 pub returns : goal.returns
-returns c = rw c.before.form_1.ensures at c.verdict_in.ensures
+returns c = rw c.form_1.ensures at c.verdict_in.ensures

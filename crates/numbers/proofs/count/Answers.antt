@@ -19,14 +19,14 @@ from_zero : (z : ℤ) → lt_z z (pos 0) ≡ false → T (non_neg z) × nat_abs 
 from_zero (pos n) e = (tt, refl)
 from_zero (negsuc n) e = absurd (subst T e tt)
 
-counted : (c : goal.Else-n-lt0) → let n = c.before.args.n in T (non_neg n) × nat_abs n ≡ count_of n
-counted c = from_zero c.before.args.n (rw (to_z-of_z c.before.ranges.n) at c.if-n-lt0.false)
+counted : (c : goal.Else-n-lt0) → let n = c.args.n in T (non_neg n) × nat_abs n ≡ count_of n
+counted c = from_zero c.args.n (rw (to_z-of_z c.ranges.n) at c.if-n-lt0.false)
 
 pub overflow_cast-result : goal.overflow_cast-result
-overflow_cast-result c = rw (to_z-of_z c.before.ranges.n) ((counted c).0, Fits-nat_abs tt c.before.ranges.n)
+overflow_cast-result c = rw (to_z-of_z c.ranges.n) ((counted c).0, Fits-nat_abs tt c.ranges.n)
 
 pub returns-then-n-lt0 : goal.returns-then-n-lt0
-returns-then-n-lt0 c = below_zero c.before.args.n (rw (to_z-of_z c.before.ranges.n) at c.if-n-lt0.true)
+returns-then-n-lt0 c = below_zero c.args.n (rw (to_z-of_z c.ranges.n) at c.if-n-lt0.true)
 
 pub returns-else-n-lt0 : goal.returns-else-n-lt0
-returns-else-n-lt0 c = rw (to_z-of_z c.before.ranges.n) (counted c).1
+returns-else-n-lt0 c = rw (to_z-of_z c.ranges.n) (counted c).1

@@ -8,12 +8,12 @@ use Rattle.numbers.proofs.half_at.Goals as goal
 
 pub returns-then-s-at : goal.returns-then-s-at
 returns-then-s-at c =
-    let s = c.before.before.args.s.now in
-    let i = c.before.before.args.at in
+    let s = c.args.s.now in
+    let i = c.args.at in
     omega (arith, get_or-eq_default s 0 {n = i} (omega arith), get_or-eq_default s 0 {n = i + 1} (omega arith))
 
 pub returns-then-s-next : goal.returns-then-s-next
 returns-then-s-next c =
-    let s = c.before.before.before.before.before.args.s.now in
-    let i = c.before.before.before.before.before.args.at in
+    let s = c.args.s.now in
+    let i = c.args.at in
     omega (arith, get_or-eq_default s 0 {n = i + 1} (omega arith))

@@ -5,10 +5,10 @@ use Rattle.numbers.proofs.is_within.Goals as goal
 
 pub returns-then-low-n : goal.returns-then-low-n
 returns-then-low-n c =
-    let f = c.before.ranges in
+    let f = c.ranges in
     simp (to_z-of_z f.n, to_z-of_z f.high, rw (to_z-of_z f.low, to_z-of_z f.n) at c.if-low-n.true)
 
 pub returns-else-low-n : goal.returns-else-low-n
 returns-else-low-n c =
-    let f = c.before.ranges in
+    let f = c.ranges in
     simp (to_z-of_z f.n, to_z-of_z f.low, rw (to_z-of_z f.low, to_z-of_z f.n) at c.if-low-n.false)

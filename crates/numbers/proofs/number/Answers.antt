@@ -11,7 +11,7 @@ use Rattle.numbers.specs.Numbers.{word_of}
 use Rattle.numbers.proofs.Signs.{neg_fits, neg_suc}
 use Rattle.numbers.proofs.number.Goals as goal
 
-up_small : (c : goal.Else-word-lt2147483648) → let a = c.before.args in 4294967295 - word_of a.a a.b a.c a.d < 2 ^ 31
+up_small : (c : goal.Else-word-lt2147483648) → let a = c.args in 4294967295 - word_of a.a a.b a.c a.d < 2 ^ 31
 up_small c = omega arith
 
 pub overflow_sub-result : goal.overflow_sub-result

@@ -38,8 +38,8 @@ worked_out relation v n h f g = rw (equal v n f g, less v n f g, greater v n f g
 pub returns : goal.returns
 returns c =
     let s = c.before.before.before.before in
-    let v = raised_to s.ranges.v (rw (to_z-of_z s.ranges.v) at c.before.before.before.raised.ensures.0) in
-    let n = raised_to s.ranges.n (rw (to_z-of_z s.ranges.n) at c.before.before.raised-2.ensures.0) in
+    let v = raised_to s.ranges.v (rw (to_z-of_z s.ranges.v) at c.raised.ensures.0) in
+    let n = raised_to s.ranges.n (rw (to_z-of_z s.ranges.n) at c.raised-2.ensures.0) in
     c.weighed-2.ensures.0
-    ∙ rw (c.before.weighed.ensures.0, v, n)
+    ∙ rw (c.weighed.ensures.0, v, n)
     (worked_out s.args.relation s.args.v s.args.n s.ranges.relation.fits s.ranges.v s.ranges.n)

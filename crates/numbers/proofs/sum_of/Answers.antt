@@ -34,10 +34,10 @@ module _ (c : goal.Start) where
   back : to_z w64 (of_z w64 (widened c.args.v +ℤ widened c.args.n)) ≡ sum
   back = to_z-of_z fits ∙ sum_is
 
-inside : (c : goal.Else-sum-2) → let a = c.before.before.args in SFits w32 (a.v +ℤ a.n)
+inside : (c : goal.Else-sum-2) → let a = c.args in SFits w32 (a.v +ℤ a.n)
 inside c =
     let b = back c.before.before in
-    counter_fits_lem _ (rw b at c.if-sum-2.false) (rw b at c.before.if-sum.false)
+    counter_fits_lem _ (rw b at c.if-sum-2.false) (rw b at c.if-sum.false)
 
 -- how far it lies beyond an end has 32 bits
 pub distance-requires : goal.distance-requires
@@ -55,17 +55,17 @@ distance-requires-then-sum-2 c =
 pub returns-then-sum : goal.returns-then-sum
 returns-then-sum c =
     let b = back c.before.before in
-    simp (rw b at c.before.if-sum.true, rw b at c.distance.ensures)
+    simp (rw b at c.if-sum.true, rw b at c.distance.ensures)
 
 pub returns-then-sum-2 : goal.returns-then-sum-2
 returns-then-sum-2 c =
     let b = back c.before.before.before in
-    simp (rw b at c.before.before.if-sum.false, rw b at c.before.if-sum-2.true, rw b at c.distance-then-sum-2.ensures)
+    simp (rw b at c.if-sum.false, rw b at c.if-sum-2.true, rw b at c.distance-then-sum-2.ensures)
 
 pub returns : goal.returns
 returns c =
     let b = back c.before.before in
-    rw (b, to_z-of_z (inside c)) (simp (rw b at c.before.if-sum.false, rw b at c.if-sum-2.false))
+    rw (b, to_z-of_z (inside c)) (simp (rw b at c.if-sum.false, rw b at c.if-sum-2.false))
 
 pub overflow_cast-sum : goal.overflow_cast-sum
 overflow_cast-sum c = wide c.ranges.v

@@ -22,20 +22,20 @@ loop-at-init c = (refl, omega arith)
 
 pub routine_at-requires : goal.routine_at-requires
 routine_at-requires c =
-    let p = c.before.before.requires in
-    (p.stages c.before.loop-at.at c.loop-at-test.true, p.places c.before.loop-at.at c.loop-at-test.true)
+    let p = c.requires in
+    (p.stages c.loop-at.at c.loop-at-test.true, p.places c.loop-at.at c.loop-at-test.true)
 
 pub bounds-routines-at : goal.bounds-routines-at
-bounds-routines-at c = omega (arith, c.before.loop-at-test.true, c.before.before.before.requires.few)
+bounds-routines-at c = omega (arith, c.loop-at-test.true, c.requires.few)
 
 pub loop-at-smaller : goal.loop-at-smaller
-loop-at-smaller c = omega (arith, c.before.loop-at-test.true)
+loop-at-smaller c = omega (arith, c.loop-at-test.true)
 
 pub loop-at-preserved : goal.loop-at-preserved
 loop-at-preserved c =
-    let l = c.before.before.loop-at in
+    let l = c.loop-at in
     let s = c.before.before.before in
-    let more = c.before.loop-at-test.true in
+    let more = c.loop-at-test.true in
     let near : l.at < most_routines = omega (arith, more, s.requires.few) in
     let routine = routine_in s.args.flags.now s.args.fields.now in
     let is = c.routine_at.ensures ∙ sym (below_read most_routines routine l.at blank near) in
@@ -46,15 +46,15 @@ loop-at-preserved c =
     )
 
 pub starting_line-requires : goal.starting_line-requires
-starting_line-requires c = let p = c.before.before.requires in ((p.short, p.fields_long), (p.entries, p.entries_beyond))
+starting_line-requires c = let p = c.requires in ((p.short, p.fields_long), (p.entries, p.entries_beyond))
 
 pub returns : goal.returns
 returns c =
-    let l = c.before.before.loop-at in
+    let l = c.loop-at in
     let s = c.before.before.before in
     let routine = routine_in s.args.flags.now s.args.fields.now in
     let size = below_length most_routines routine in
-    let end : l.at ≡ s.args.counts.routines = omega (arith, l.invariant.1, c.before.loop-at-test.false) in
+    let end : l.at ≡ s.args.counts.routines = omega (arith, l.invariant.1, c.loop-at-test.false) in
     let all =
     copy_all (list_below most_routines routine) s.args.lent l.at blank (long s ∙ sym size)
     (λ i h k.

@@ -4,6 +4,6 @@ use Rattle.opening.proofs.open.Goals as goal
 
 pub returns : goal.returns
 returns c =
-    let j = c.before.before.before.before.before.join-joined.ensures in
+    let j = c.join-joined.ensures in
     let s = c.settle.ensures in
-    (c.before.before.before.broadcast.ensures, (rw (j.0, j.1) at s.0, rw (j.0, j.1) at s.1))
+    (c.broadcast.ensures, (rw (j.0, j.1) at s.0, rw (j.0, j.1) at s.1))

@@ -7,11 +7,11 @@ returns c =
     let b = c.before.before.before.before.before in
     rw (
       c.flag_at-resuming.ensures,
-      c.before.flag_at-suspending.ensures,
-      c.before.before.flag_at-stopping.ensures,
-      c.before.before.before.flag_at-begun.ensures,
-      c.before.before.before.before.flag_at-suspended.ensures,
+      c.flag_at-suspending.ensures,
+      c.flag_at-stopping.ensures,
+      c.flag_at-begun.ensures,
+      c.flag_at-suspended.ensures,
       b.field_at-left.ensures.0,
-      b.before.field_at-place.ensures.0,
-      b.before.before.field_at-stage.ensures.0,
+      b.field_at-place.ensures.0,
+      b.field_at-stage.ensures.0,
     )

@@ -15,14 +15,14 @@ loop-at-init c = (refl, search rules)
 
 pub overflow_cast-items : goal.overflow_cast-items
 overflow_cast-items c =
-    let small = c.before.before.before.requires.1.0 c.before.before.loop-at.at c.before.loop-at-test.true in search (rules, small)
+    let small = c.requires.1.0 c.loop-at.at c.loop-at-test.true in search (rules, small)
 
 pub loop-at-preserved : goal.loop-at-preserved
 loop-at-preserved c =
-    let l = c.before.before.loop-at in
-    let p = c.before.before.before.requires in
-    let fields = c.before.before.before.args.fields.now in
-    let more = c.before.loop-at-test.true in
+    let l = c.loop-at in
+    let p = c.requires in
+    let fields = c.args.fields.now in
+    let more = c.loop-at-test.true in
     let near : l.at < most_entries = omega (arith, p.0.0, more) in
     let on = copy_on (last_row starting_row fields) (replicate most_entries 0) l.at 0 in (
       rw (l.invariant.0, c.starting_at.ensures.0) (on (omega (arith, near, last_length starting_row fields, p.0.1)) near),
@@ -31,7 +31,7 @@ loop-at-preserved c =
 
 pub returns : goal.returns
 returns c =
-    let l = c.before.loop-at in
+    let l = c.loop-at in
     let s = c.before.before in
     let row = last_row starting_row s.args.fields.now in
     let wide : length row ≡ most_entries = omega (arith, last_length starting_row s.args.fields.now, s.requires.0.1) in

@@ -7,13 +7,13 @@ returns c =
     let b = c.before.before.before.before.before.before.before.before.before in (
       rw (
         b.put_flag-3.ensures,
-        b.before.before.put_flag-2.ensures,
-        b.before.before.before.is_suspended.ensures,
-        b.before.before.before.before.before.put_flag.ensures,
+        b.put_flag-2.ensures,
+        b.is_suspended.ensures,
+        b.put_flag.ensures,
       ),
       rw (
         c.put_field-3.ensures,
-        c.before.before.before.put_field-2.ensures,
-        c.before.before.before.before.before.before.put_field.ensures,
+        c.put_field-2.ensures,
+        c.put_field.ensures,
       ),
     )

@@ -6,7 +6,7 @@ use borrow.Author.Rules.{rules}
 use lib.ListN.{get_or-eq_default}
 use Rattle.ordering.proofs.order_count.Goals as goal
 
-unknown : (c : goal.In_default) → 5 ≤ c.before.args.kind
+unknown : (c : goal.In_default) → 5 ≤ c.args.kind
 unknown c = omega arith
 
 pub returns-in_default : goal.returns-in_default

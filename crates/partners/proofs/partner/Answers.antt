@@ -25,11 +25,11 @@ module _ (s : List ℕ) (n d p : ℕ) where
 
 -- before the last step the invariant, one step on
 step_on : (c : goal.Else-count-at) →
-    let s = c.before.before.args.steps.now in
-    let p = c.before.scan.at in
-    partner_by (λ e. partner_of s (steps_in s - (p + 1)) e (p + 1)) (op_at s p) c.before.scan.depth p
-    ≡ partner_of s (steps_in s - c.before.before.args.first) 0 c.before.before.args.first
-step_on c = sym (partner_on _ _ _ _ c.if-count-at.false) ∙ c.before.scan.invariant.0
+    let s = c.args.steps.now in
+    let p = c.scan.at in
+    partner_by (λ e. partner_of s (steps_in s - (p + 1)) e (p + 1)) (op_at s p) c.scan.depth p
+    ≡ partner_of s (steps_in s - c.args.first) 0 c.args.first
+step_on c = sym (partner_on _ _ _ _ c.if-count-at.false) ∙ c.scan.invariant.0
 
 pub scan-preserved : goal.scan-preserved
 scan-preserved c =
@@ -48,10 +48,10 @@ scan-preserved c =
     c.match-op.branch
 
 pub returns-then-count-at : goal.returns-then-count-at
-returns-then-count-at c = sym (partner_past _ _ _ _ c.if-count-at.true) ∙ c.before.scan.invariant.0
+returns-then-count-at c = sym (partner_past _ _ _ _ c.if-count-at.true) ∙ c.scan.invariant.0
 
 pub returns-then-depth-eq0 : goal.returns-then-depth-eq0
-returns-then-depth-eq0 c = rw (c.before.in-18.is, c.if-depth-eq0.true) at (step_on c.before.before.before)
+returns-then-depth-eq0 c = rw (c.in-18.is, c.if-depth-eq0.true) at (step_on c.before.before.before)
 
 pub returns-then-depth-eq0-2 : goal.returns-then-depth-eq0-2
-returns-then-depth-eq0-2 c = rw (c.before.in-20.is, c.if-depth-eq0-2.true) at (step_on c.before.before.before)
+returns-then-depth-eq0-2 c = rw (c.in-20.is, c.if-depth-eq0-2.true) at (step_on c.before.before.before)

@@ -5,20 +5,29 @@ use native.Mathlib.Omega.{arith}
 use borrow.Author.Tests.{eq-eqb, ne_eqb}
 use Rattle.round.specs.Rounds.{most_passes}
 use Rattle.passing.proofs.AllPasses.{Among, pass_asks, ends, goes, no_pass}
+use Rattle.passing.proofs.all_passes.Lts as lts
+use Rattle.passing.proofs.all_passes.Reads as reads
+use Rattle.passing.proofs.all_passes.Tie as tie
 use Rattle.passing.proofs.all_passes.Goals as goal
 
+abbrev After-pass-p : Type 0
+After-pass-p = lts.After-pass tie.the-claims reads.Pre reads.Post
+
+abbrev At-loop-passes : Type 0
+At-loop-passes = lts.At-loop tie.the-claims reads.Pre reads.Post
+
 -- the loop's head, seen from the pass
-abbrev head : goal.After-pass-p → goal.At-loop-passes
+abbrev head : After-pass-p → At-loop-passes
 head p = p.before.before.before.before.before.before.before
 
 -- a pass is allowed there
-more : (p : goal.After-pass-p) → (head p).loop-passes.passes < most_passes
-more p = p.before.before.before.before.before.before.loop-passes-test.true
+more : (p : After-pass-p) → (head p).loop-passes.passes < most_passes
+more p = p.loop-passes-test.true
 
 pub loop-passes-init : goal.loop-passes-init
 loop-passes-init c =
     record {
-      whole = c.before.requires.0;
+      whole = c.requires.0;
       given_long = refl;
       marks_long = refl;
       few = omega arith;
@@ -30,10 +39,10 @@ pub pass-p-requires : goal.pass-p-requires
 pass-p-requires c =
     let l = c.before.before.before.before.before.before in
     let i = l.loop-passes.invariant in
-    let p = l.before.before.requires in
+    let p = l.requires in
     let long = i.given_long in
     let g = p.1.1.0 in
-    let more = c.before.before.before.before.before.loop-passes-test.true in
+    let more = c.loop-passes-test.true in
     (rw long i.whole, (p.1.0, (g, rw long (pass_asks i more g p.1.1.1))))
 
 pub overflow_add-passes : goal.overflow_add-passes
@@ -64,14 +73,14 @@ loop-passes-preserved c =
     let p = c.before.before.before.before.before.before in
     let i = (head p).loop-passes.invariant in
     let pass = p.pass-p.ensures in
-    goes i (more p) _ _ _ _ _ _ _ pass.0 (ne_eqb _ _ c.before.if-p-eq0.false) (rw i.given_long at pass.1.0)
+    goes i (more p) _ _ _ _ _ _ _ pass.0 (ne_eqb _ _ c.if-p-eq0.false) (rw i.given_long at pass.1.0)
     (pass.1.1 ∙ i.given_long) (p.pass-p.auto.1.1.1.1.1.1.1.1.0 ∙ i.marks_long)
 
 pub shape_of-given : goal.shape_of-given
-shape_of-given c = c.before.loop-passes.invariant.given_long
+shape_of-given c = c.loop-passes.invariant.given_long
 
 pub shape_of-marks : goal.shape_of-marks
-shape_of-marks c = c.before.loop-passes.invariant.marks_long
+shape_of-marks c = c.loop-passes.invariant.marks_long
 
 pub returns : goal.returns
 returns c =

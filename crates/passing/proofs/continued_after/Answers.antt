@@ -7,13 +7,13 @@ pub returns-in-PassedOver : goal.returns-in-PassedOver
 returns-in-PassedOver c = rw (c.in-PassedOver.is, and-true)
 
 pub returns-in-Ended : goal.returns-in-Ended
-returns-in-Ended c = rw (c.before.before.before.in-Took.is, c.enum-told2.given.1, and-true)
+returns-in-Ended c = rw (c.in-Took.is, c.in-Ended.is, and-true)
 
 pub returns-in-Rested : goal.returns-in-Rested
-returns-in-Rested c = rw (c.before.before.before.in-Took.is, c.enum-told3.given.1, and-true)
+returns-in-Rested c = rw (c.in-Took.is, c.in-Rested.is, and-true)
 
 pub returns-in-Missed : goal.returns-in-Missed
-returns-in-Missed c = rw (c.before.before.before.in-Took.is, c.enum-told4.given.1, and-true)
+returns-in-Missed c = rw (c.in-Took.is, c.in-Missed.is, and-true)
 
 pub returns-in-Continued : goal.returns-in-Continued
-returns-in-Continued c = rw (c.before.before.before.in-Took.is, c.enum-told5.given.1, and-false)
+returns-in-Continued c = rw (c.in-Took.is, c.in-Continued.is, and-false)

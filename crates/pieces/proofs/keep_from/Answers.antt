@@ -51,11 +51,11 @@ loop-at-init c = (refl, omega arith, refl)
 
 pub loop-at-preserved : goal.loop-at-preserved
 loop-at-preserved c =
-    let l = c.before.before.loop-at in
-    let a = c.before.before.before.before.args in
-    (rw l.invariant.0 (goes a.text.now a.from _ c.before.loop-at-test.true), omega arith, simp length-set l.invariant.2)
+    let l = c.loop-at in
+    let a = c.args in
+    (rw l.invariant.0 (goes a.text.now a.from _ c.loop-at-test.true), omega arith, simp length-set l.invariant.2)
 
 pub returns : goal.returns
 returns c =
-    let a = c.before.before.before.args in
-    (refl, c.before.loop-at.invariant.0 ∙ ends a.text.now a.from c.before.loop-at.at (omega arith))
+    let a = c.args in
+    (refl, c.loop-at.invariant.0 ∙ ends a.text.now a.from c.loop-at.at (omega arith))

@@ -28,13 +28,13 @@ module _ (text : List ℕ) (n : ℕ) where
 
 pub returns-then-text-at-eq10 : goal.returns-then-text-at-eq10
 returns-then-text-at-eq10 c =
-    let l = c.before.before.before.loop-at in
-    (sym (ends _ _ c.before.before.loop-at-test.true c.if-text-at-eq10.true) ∙ l.invariant.0, omega arith)
+    let l = c.loop-at in
+    (sym (ends _ _ c.loop-at-test.true c.if-text-at-eq10.true) ∙ l.invariant.0, omega arith)
 
 pub loop-at-preserved : goal.loop-at-preserved
 loop-at-preserved c =
-    let l = c.before.before.before.loop-at in
-    (sym (goes _ _ c.before.before.loop-at-test.true c.if-text-at-eq10.false) ∙ l.invariant.0, omega arith)
+    let l = c.loop-at in
+    (sym (goes _ _ c.loop-at-test.true c.if-text-at-eq10.false) ∙ l.invariant.0, omega arith)
 
 pub returns : goal.returns
-returns c = (sym (none _ _ c.loop-at-test.false) ∙ c.before.loop-at.invariant.0, omega arith)
+returns c = (sym (none _ _ c.loop-at-test.false) ∙ c.loop-at.invariant.0, omega arith)

@@ -20,7 +20,13 @@ use Rattle.game.specs.Game.{ended, blank}
 use Rattle.fitting.proofs.Sizes.{length_mapped}
 use Rattle.plays.specs.Plays.{is_over}
 use Rattle.play_listing.proofs.is_over.Invariants.{entry_ended}
+use Rattle.play_listing.proofs.is_over.Lts as lts
+use Rattle.play_listing.proofs.is_over.Reads as reads
+use Rattle.play_listing.proofs.is_over.Tie as tie
 use Rattle.play_listing.proofs.is_over.Goals as goal
+
+abbrev Else-used-ne0 : Type 0
+Else-used-ne0 = lts.Else1 tie.the-claims reads.Pre reads.Post
 
 module _ (g : Game) where
   abbrev Each : Bool → Type 0
@@ -39,40 +45,40 @@ unfolding all_below
 loop-at-init c = search rules
 
 pub returns-then-used-ne0 : goal.returns-then-used-ne0
-returns-then-used-ne0 c = starts c.before.before.args.game (rw c.before.used.ensures.0 at c.if-used-ne0.true)
+returns-then-used-ne0 c = starts c.args.game (rw c.used.ensures.0 at c.if-used-ne0.true)
 
 -- once the first test is passed, none is to start
-none_starts : (c : goal.Else-used-ne0) → used_of c.before.before.args.game.starting ≡ 0
-none_starts c = rw c.before.used.ensures.0 at c.if-used-ne0.false
+none_starts : (c : Else-used-ne0) → used_of c.args.game.starting ≡ 0
+none_starts c = rw c.used.ensures.0 at c.if-used-ne0.false
 
 pub returns-then-routine-ge-MOST_ROUTINES : goal.returns-then-routine-ge-MOST_ROUTINES
 returns-then-routine-ge-MOST_ROUTINES c =
     let l = c.before.before.before in
     let first = l.before.before.before.before in
-    let g = first.before.before.args.game in
+    let g = first.args.game in
     let long : length g.routines-1 ≡ most_routines = search (rules, length_mapped) in
     let entry = item_at g.listed-1 l.loop-at.at in
     let past : get_or g.routines-1 entry blank ≡ blank = get_or-eq_default g.routines-1 blank {n = entry} (omega arith) in
-    let within : l.loop-at.at < used_of g.listed-1 = rw l.before.used-all.ensures.0 at c.before.before.loop-at-test.true in
+    let within : l.loop-at.at < used_of g.listed-1 = rw l.used-all.ensures.0 at c.loop-at-test.true in
     starts_none g (none_starts first) (all_fails _ _ l.loop-at.at within (rw past))
 
 pub returns-then-routines-routine-ne-ENDED : goal.returns-then-routines-routine-ne-ENDED
 returns-then-routines-routine-ne-ENDED c =
     let l = c.before.before.before.before in
     let first = l.before.before.before.before in
-    let g = first.before.before.args.game in
-    let within : l.loop-at.at < used_of g.listed-1 = rw l.before.used-all.ensures.0 at c.before.before.before.loop-at-test.true in
+    let g = first.args.game in
+    let within : l.loop-at.at < used_of g.listed-1 = rw l.used-all.ensures.0 at c.loop-at-test.true in
     starts_none g (none_starts first) (all_fails _ _ l.loop-at.at within (ne_eqb _ _ c.if-routines-routine-ne-ENDED.true))
 
 pub loop-at-preserved : goal.loop-at-preserved
 loop-at-preserved c =
-    let l = c.before.before.before.before.loop-at in
+    let l = c.loop-at in
     (all_next _ l.at l.invariant.0 (eq-eqb _ _ c.if-routines-routine-ne-ENDED.false), omega arith)
 
 pub returns : goal.returns
 returns c =
     let l = c.before in
     let first = l.before.before.before.before in
-    let u = l.before.used-all.ensures.0 in
-    starts_none first.before.before.args.game (none_starts first)
+    let u = l.used-all.ensures.0 in
+    starts_none first.args.game (none_starts first)
     (all_ends _ l.loop-at.invariant.0 (rw u at l.loop-at.invariant.1) (rw u at c.loop-at-test.false))

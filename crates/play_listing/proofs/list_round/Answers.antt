@@ -9,11 +9,17 @@ use Rattle.layout.specs.Layout.{most_steps}
 use Rattle.round.specs.Answers.{Answer}
 use Rattle.play_listing.specs.Printed.{mark_buffer}
 use Rattle.play_listing.proofs.Few.{marks_few}
+use Rattle.play_listing.proofs.list_round.Lts as lts
+use Rattle.play_listing.proofs.list_round.Reads as reads
+use Rattle.play_listing.proofs.list_round.Tie as tie
 use Rattle.play_listing.proofs.list_round.Goals as goal
 
-few : (c : goal.After-play-played) → c.play-played.result.marks-1 ≤ most_steps
+abbrev After-play-played : Type 0
+After-play-played = lts.After-play tie.the-claims reads.Pre reads.Post
+
+few : (c : After-play-played) → c.play-played.result.marks-1 ≤ most_steps
 few c =
-    let s = c.before.before.before.before.args in
+    let s = c.args in
     omega (arith, ap (λ (a : Answer). a.marks-1) c.play-played.ensures.0, marks_few s.book.now s.game mark_buffer)
 
 pub overflow_mul-end : goal.overflow_mul-end
@@ -27,5 +33,5 @@ slice_bounds-put_round-end c = simp length-take (omega (arith, few c.before.befo
 
 pub returns : goal.returns
 returns c =
-    let p = c.before.before.before.before.before.before.before.before.play-played.ensures.0 in
-    rw (← p) (refl, c.before.before.before.put_round-used.ensures)
+    let p = c.play-played.ensures.0 in
+    rw (← p) (refl, c.put_round-used.ensures)

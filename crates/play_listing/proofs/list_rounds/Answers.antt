@@ -7,7 +7,7 @@ use mathlib.Core.Bool.{true, false}
 use native.Mathlib.Omega.{arith}
 use borrow.Author.Rules.{rules}
 use lib.ListN.{length}
-use Rattle.game.specs.declared.Game.{Game}
+use Rattle.game-1.specs.declared.Game.{Game}
 use Rattle.plays.specs.Plays.{is_over}
 use Rattle.texts.specs.Texts.{filled, with_text}
 use Rattle.texts.proofs.Behind.{then}
@@ -35,18 +35,18 @@ loop-number-init c = (refl, omega arith, refl)
 pub returns-then-is_over : goal.returns-then-is_over
 unfolding with_text
 returns-then-is_over c =
-    let l = c.before.before.before.before.loop-number in
-    let s = c.before.before.before.before.before.before.before.args in
-    let ended = over s.book.now l.number l.play.game-1 (left l.number) (sym c.before.is_over.ensures ∙ c.if-is_over.true) in
+    let l = c.loop-number in
+    let s = c.args in
+    let ended = over s.book.now l.number l.play.game-1 (left l.number) (sym c.is_over.ensures ∙ c.if-is_over.true) in
     rw ended at l.invariant.0
 
 pub loop-number-preserved : goal.loop-number-preserved
 loop-number-preserved c =
-    let l = c.before.before.before.before.before.before.before.before.loop-number in
-    let s = c.before.before.before.before.before.before.before.before.before.before.before.args in
+    let l = c.loop-number in
+    let s = c.args in
     let book = s.book.now in
-    let r = c.before.before.list_round-play.ensures in
-    let goes = sym c.before.before.before.before.before.is_over.ensures ∙ c.before.before.before.before.if-is_over.false in
+    let r = c.list_round-play.ensures in
+    let goes = sym c.is_over.ensures ∙ c.if-is_over.false in
     let e = goes_on_lem book l.number l.play.game-1 (left l.number) (left (l.number + 1)) (omega arith) goes in
     let here = filled l.out-1 l.play.used in
     let rest = lines_from book (left (l.number + 1)) (l.number + 1) (next_answer book l.play.game-1).game-1 in
@@ -55,6 +55,6 @@ loop-number-preserved c =
 pub returns : goal.returns
 unfolding with_text lines_from
 returns c =
-    let l = c.before.loop-number in
+    let l = c.loop-number in
     let none : left l.number ≡ 0 = omega arith in
     rw none at l.invariant.0

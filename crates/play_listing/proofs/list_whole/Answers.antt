@@ -7,6 +7,6 @@ use Rattle.play_listing.proofs.list_whole.Goals as goal
 
 pub returns : goal.returns
 returns c =
-    let s = c.before.before.before.args in
+    let s = c.args in
     let long : longest_listing ≤ length s.out.now = search rules in
     (c.list_play.ensures, rw (← c.list_play.ensures) at (printed_whole s.book.now s.out.now long))

@@ -11,25 +11,25 @@ use Rattle.book.proofs.OneReading.{one_reading}
 use Rattle.verdicts.proofs.Answers.{refuses, not_six}
 use Rattle.reading.proofs.read_book.Goals as goal
 
-laid : (c : goal.In-Accepted) → layout_verdict c.before.before.before.before.args.book.now ≡ accepted
-laid c = sym c.before.before.check_layout-laid.ensures ∙ ap verdict_of c.in-Accepted.is
+laid : (c : goal.In-Accepted) → layout_verdict c.args.book.now ≡ accepted
+laid c = sym c.check_layout-laid.ensures ∙ ap verdict_of c.in-Accepted.is
 
 in_order :
     (c : goal.In-Accepted-entries) →
-    directory_verdict c.before.before.before.before.before.before.before.args.book.now ≡ accepted
-in_order c = sym c.before.before.check_directory-entries.ensures ∙ ap verdict_of c.enum-told2.given.1
+    directory_verdict c.args.book.now ≡ accepted
+in_order c = sym c.check_directory-entries.ensures ∙ ap verdict_of c.in-Accepted-entries.is
 
 pub returns-in_default : goal.returns-in_default
 unfolding book_verdict
-returns-in_default c = rw (← c.before.check_layout-laid.ensures, ne_eqb _ _ (refuses c.before.check_layout-laid.result c.match.keys2))
+returns-in_default c = rw (← c.check_layout-laid.ensures, ne_eqb _ _ (refuses c.check_layout-laid.result c.match.keys2))
 
 pub returns-in_default-entries : goal.returns-in_default-entries
 unfolding book_verdict
 returns-in_default-entries c =
     rw (
       laid c.before.before,
-      ← c.before.check_directory-entries.ensures,
-      ne_eqb _ _ (refuses c.before.check_directory-entries.result c.match2.keys2),
+      ← c.check_directory-entries.ensures,
+      ne_eqb _ _ (refuses c.check_directory-entries.result c.match2.keys2),
     )
 
 pub check_blocks-blocks-requires : goal.check_blocks-blocks-requires
@@ -38,7 +38,7 @@ check_blocks-blocks-requires c = (laid c.before.before.before, in_order c)
 pub returns-in_default-blocks : goal.returns-in_default-blocks
 unfolding book_verdict
 returns-in_default-blocks c =
-    let blocks = c.before.check_blocks-blocks in
+    let blocks = c.check_blocks-blocks in
     let entries = c.before.before in
     let number = ap (λ v. v.number) blocks.ensures in
     let one = one_reading _ (in_order entries) (λ z. not_six blocks.result c.match3.keys2 (number ∙ z)) in

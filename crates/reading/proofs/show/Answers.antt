@@ -22,14 +22,14 @@ refused_none s r n = rw (ne_eqb _ _ n)
 behind_none : (s : List ℕ) (r : ℕ) → routines_of s ≤ r → is_shown s r ≡ false
 behind_none s r h = rw (le-ltb r (routines_of s) h, and-false)
 
-told : (c : goal.In-Accepted) → (book_verdict c.before.before.before.before.args.book.now).number ≡ 0
-told c = ap (λ v. v.number) (sym c.before.before.read_book-answer.ensures ∙ ap verdict_of c.in-Accepted.is)
+told : (c : goal.In-Accepted) → (book_verdict c.args.book.now).number ≡ 0
+told c = ap (λ v. v.number) (sym c.read_book-answer.ensures ∙ ap verdict_of c.in-Accepted.is)
 
 pub returns-in_default : goal.returns-in_default
 returns-in_default c =
     let call = c.before.before in
-    let args = call.before.before.args in
-    let wrong = refuses call.read_book-answer.result-1 c.before.match.keys2 in
+    let args = call.args in
+    let wrong = refuses call.read_book-answer.result-1 c.match.keys2 in
     let none =
     none_shown _ _ (refused_none args.book.now args.routine (λ z. wrong (ap (λ v. v.number) call.read_book-answer.ensures ∙ z))) in
     (sym none.0, (refl, omega (arith, none.1)))
@@ -38,7 +38,7 @@ pub returns-then-routines-routine : goal.returns-then-routines-routine
 returns-then-routines-routine c =
     let start = c.before.before.before.before.before.before.before in
     let behind : routines_of start.args.book.now ≤ start.args.routine =
-    omega (arith, c.before.if-routines-routine.true, c.before.before.routines.ensures.0) in
+    omega (arith, c.if-routines-routine.true, c.routines.ensures.0) in
     let none = none_shown _ _ (behind_none start.args.book.now start.args.routine behind) in
     (sym none.0, (refl, omega (arith, none.1)))
 
@@ -47,9 +47,9 @@ returns c =
     let start = c.before.before.before.before.before.before.before in
     let a = number_accepted start.args.book.now (told c.before.before.before) in
     let h : start.args.routine < routines_of start.args.book.now =
-    omega (arith, c.before.if-routines-routine.false, c.before.before.routines.ensures.0) in
+    omega (arith, c.if-routines-routine.false, c.routines.ensures.0) in
     let begins = routine_start _ a.directed.entries a.directed.total a.laid.offsets.size _ h in
-    let place = c.routine_steps_lem.ensures.1 in (
-      c.routine_steps_lem.ensures.0 ∙ sym (shown_routine _ a _ h),
+    let place = c.routine_steps.ensures.1 in (
+      c.routine_steps.ensures.0 ∙ sym (shown_routine _ a _ h),
       (place.0, rw (shown_from_lem _ a _ h, ← (begins_there _ _ begins)) place.1),
     )

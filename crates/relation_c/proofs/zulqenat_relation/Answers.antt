@@ -4,4 +4,4 @@ use mir.Facts.{to_z-of_z}
 use Rattle.relation_c.proofs.zulqenat_relation.Goals as goal
 
 pub returns : goal.returns
-returns c = rw (to_z-of_z c.before.ranges.v, to_z-of_z c.before.ranges.n) at c.relation.ensures
+returns c = rw (to_z-of_z c.ranges.v, to_z-of_z c.ranges.n) at c.relation.ensures

@@ -6,4 +6,4 @@ use Rattle.setup.proofs.new_game.Goals as goal
 
 pub returns : goal.returns
 unfolding new_game blank_game
-returns c = rw (c.push-starting.ensures, c.before.before.blank_game-next.ensures)
+returns c = rw (c.push-starting.ensures, c.blank_game-next.ensures)

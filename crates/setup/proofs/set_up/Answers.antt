@@ -7,10 +7,16 @@ use Rattle.book.specs.Book.{book_verdict}
 use Rattle.fitting.proofs.Outcomes.{promised}
 use Rattle.setup.specs.SetUp.{set_up}
 use Rattle.setup.proofs.SetUp.{set_up_fits}
+use Rattle.setup.proofs.set_up.Lts as lts
+use Rattle.setup.proofs.set_up.Reads as reads
+use Rattle.setup.proofs.set_up.Tie as tie
 use Rattle.setup.proofs.set_up.Goals as goal
 
-read : (c : goal.After-verdict_of-verdict) → c.verdict_of-verdict.result ≡ book_verdict c.before.before.before.args.book.now
-read c = c.verdict_of-verdict.ensures ∙ c.before.read_book.ensures
+abbrev After-verdict_of-verdict : Type 0
+After-verdict_of-verdict = lts.After-verdict_of tie.the-claims reads.Pre reads.Post
+
+read : (c : After-verdict_of-verdict) → c.verdict_of-verdict.result ≡ book_verdict c.args.book.now
+read c = c.verdict_of-verdict.ensures ∙ c.read_book.ensures
 
 pub returns-then-verdict-eq0 : goal.returns-then-verdict-eq0
 unfolding set_up

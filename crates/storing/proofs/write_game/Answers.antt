@@ -14,10 +14,31 @@ use Rattle.stored_games.proofs.Ends.{records_part, up_to_records, up_to_counters
 use Rattle.stored_games.proofs.Ends.{records_end, counters_end, listed_end, starting_end}
 use Rattle.storing.specs.Puts.{Put}
 use Rattle.storing.proofs.Puts.{then, joined_starts, joined_next, joined_ends}
+use Rattle.storing.proofs.write_game.Lts as lts
+use Rattle.storing.proofs.write_game.Reads as reads
+use Rattle.storing.proofs.write_game.Tie as tie
 use Rattle.storing.proofs.write_game.Goals as goal
 
+abbrev After-loop-routine : Type 0
+After-loop-routine = lts.After-loop tie.the-claims reads.Pre reads.Post
+
+abbrev After-put_counters-end : Type 0
+After-put_counters-end = lts.After-put_counters tie.the-claims reads.Pre reads.Post
+
+abbrev After-put_line-end : Type 0
+After-put_line-end = lts.After-put_line tie.the-claims reads.Pre reads.Post
+
+abbrev After-put_line-end-2 : Type 0
+After-put_line-end-2 = lts.After-put_line2 tie.the-claims reads.Pre reads.Post
+
+abbrev At-loop-routine : Type 0
+At-loop-routine = lts.At-loop tie.the-claims reads.Pre reads.Post
+
+abbrev Start : Type 0
+Start = lts.Start tie.the-claims reads.Pre reads.Post
+
 -- what is known at the start: how long the game's arrays are, and that the buffer has room for all parts
-module _ (c : goal.Start) where
+module _ (c : Start) where
   abbrev Long : Type 0
   Long =
       (length c.args.t2.listed-1.items ≡ most_entries)
@@ -35,49 +56,49 @@ module _ (c : goal.Start) where
   room = c.requires.1.1
 
 -- from a place back to the start
-abbrev start_1 : goal.At-loop-routine → goal.Start
+abbrev start_1 : At-loop-routine → Start
 start_1 c = c.before.before.before.before.before.before.before.before.before
 
-abbrev start_2 : goal.After-put_counters-end → goal.Start
+abbrev start_2 : After-put_counters-end → Start
 start_2 c = start_1 c.before.before.before.before.before
 
-abbrev start_3 : goal.After-put_line-end → goal.Start
+abbrev start_3 : After-put_line-end → Start
 start_3 c = start_2 c.before.before.before.before
 
-abbrev start_4 : goal.After-put_line-end-2 → goal.Start
+abbrev start_4 : After-put_line-end-2 → Start
 start_4 c = start_3 c.before.before.before.before
 
 -- the parts that are put at each place
 at_loop :
-    (c : goal.At-loop-routine) → let a = (start_1 c).args in
+    (c : At-loop-routine) → let a = (start_1 c).args in
     Put 0 (up_to_records a.form a.t2 c.loop-routine.routine) a.out-1.now c.loop-routine.out-1 c.loop-routine.end
-at_loop c = then c.before.before.before.put_header-end.ensures c.loop-routine.invariant.0
+at_loop c = then c.put_header-end.ensures c.loop-routine.invariant.0
 
 after_loop :
-    (c : goal.After-loop-routine) → let a = (start_1 c.before).args in
-    Put 0 (up_to_records a.form a.t2 a.t2.counts-1.routines) a.out-1.now c.before.loop-routine.out-1 c.before.loop-routine.end
+    (c : After-loop-routine) → let a = (start_1 c.before).args in
+    Put 0 (up_to_records a.form a.t2 a.t2.counts-1.routines) a.out-1.now c.loop-routine.out-1 c.loop-routine.end
 after_loop c =
-    let l = c.before.loop-routine in
+    let l = c.loop-routine in
     let all = joined_ends _ l.routine l.invariant.0 l.invariant.1 c.loop-routine-test.false in
-    then c.before.before.before.before.put_header-end.ensures all
+    then c.put_header-end.ensures all
 
 after_counters :
-    (c : goal.After-put_counters-end) → let a = (start_2 c).args in
+    (c : After-put_counters-end) → let a = (start_2 c).args in
     Put 0 (up_to_counters a.form a.t2) a.out-1.now c.put_counters-end.new.1.1.0 c.put_counters-end.result
 after_counters c = then (after_loop c.before.before.before.before) c.put_counters-end.ensures
 
 after_listed :
-    (c : goal.After-put_line-end) → let a = (start_3 c).args in
+    (c : After-put_line-end) → let a = (start_3 c).args in
     Put 0 (up_to_listed a.form a.t2) a.out-1.now c.put_line-end.new.1.0 c.put_line-end.result
 after_listed c = then (after_counters c.before.before.before.before) c.put_line-end.ensures
 
 after_starting :
-    (c : goal.After-put_line-end-2) → let a = (start_4 c).args in
+    (c : After-put_line-end-2) → let a = (start_4 c).args in
     Put 0 (up_to_starting a.form a.t2) a.out-1.now c.put_line-end-2.new.1.0 c.put_line-end-2.result
 after_starting c = then (after_listed c.before.before.before.before) c.put_line-end-2.ensures
 
 -- a turn's routine is one of those that are kept
-kept : (c : goal.In-loop-routine) → c.before.loop-routine.routine < most_routines
+kept : (c : goal.In-loop-routine) → c.loop-routine.routine < most_routines
 kept c = omega (arith, c.loop-routine-test.true, (start_1 c.before).pre.1.0.routines)
 
 pub put_header-end-requires : goal.put_header-end-requires
@@ -85,7 +106,7 @@ put_header-end-requires c = let s = c.before.before.before.before.before in (s.r
 
 pub loop-routine-init : goal.loop-routine-init
 loop-routine-init c =
-    let h = c.before.before.put_header-end in
+    let h = c.put_header-end in
     let put = h.ensures in
     (joined_starts _ h.result h.new.1.1.0 (omega (arith, put.room, put.place, put.same_length)), search rules)
 
@@ -96,14 +117,14 @@ put_record-end-requires c =
     let usable = s.pre.0 in
     let put = at_loop l in
     let end = records_end usable s.args.t2 l.loop-routine.routine in
-    let more = c.before.before.loop-routine-test.true in
+    let more = c.loop-routine-test.true in
     (usable, omega (arith, put.place, put.same_length, end, room s, piece_within s.args.form.recordsize more))
 
 pub loop-routine-preserved : goal.loop-routine-preserved
 loop-routine-preserved c =
     let i = c.before.before.before.before.before in
-    let l = i.before.loop-routine in
-    (joined_next _ l.routine l.invariant.0 c.before.before.put_record-end.ensures, omega (arith, i.loop-routine-test.true))
+    let l = i.loop-routine in
+    (joined_next _ l.routine l.invariant.0 c.put_record-end.ensures, omega (arith, i.loop-routine-test.true))
 
 pub put_counters-end-requires : goal.put_counters-end-requires
 put_counters-end-requires c =

@@ -17,7 +17,7 @@ use Rattle.storing.proofs.Puts.{then, joined_starts, joined_next, joined_ends}
 use Rattle.storing.proofs.write_game.Given as goal
 
 abbrev pub invariant-loop-routine : goal.invariant-loop-routine
-invariant-loop-routine l = Put l.initial.l.end (records_part l.form l.counts l.routine) l.l.counts l.out l.end × (l.routine ≤ l.initial.l.out)
+invariant-loop-routine l = Put l.initial.l.end (records_part l.form l.counts-1 l.routine) l.l.counts-1 l.out-1 l.end × (l.routine ≤ l.initial.l.out-1)
 
 abbrev pub decreases-loop-routine : goal.decreases-loop-routine
-decreases-loop-routine l = l.initial.l.out - l.routine
+decreases-loop-routine l = l.initial.l.out-1 - l.routine

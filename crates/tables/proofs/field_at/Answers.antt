@@ -5,7 +5,7 @@ use borrow.Author.Rules.{rules}
 use Rattle.tables.proofs.field_at.Goals as goal
 
 pub returns-then-routine-lt-MOST_ROUTINES : goal.returns-then-routine-lt-MOST_ROUTINES
-returns-then-routine-lt-MOST_ROUTINES c = (c.wide.ensures.0 ∙ sym (row_read _ _ _ _ c.before.before.if-routine-lt-MOST_ROUTINES.true), c.wide.ensures.1)
+returns-then-routine-lt-MOST_ROUTINES c = (c.wide.ensures.0 ∙ sym (row_read _ _ _ _ c.if-routine-lt-MOST_ROUTINES.true), c.wide.ensures.1)
 
 pub returns-else-routine-lt-MOST_ROUTINES : goal.returns-else-routine-lt-MOST_ROUTINES
 returns-else-routine-lt-MOST_ROUTINES c = (sym (row_beyond _ _ _ _ c.if-routine-lt-MOST_ROUTINES.false), search rules)

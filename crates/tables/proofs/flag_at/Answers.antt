@@ -5,7 +5,7 @@ use borrow.Author.Rules.{rules}
 use Rattle.tables.proofs.flag_at.Goals as goal
 
 pub returns-then-routine-lt-MOST_ROUTINES : goal.returns-then-routine-lt-MOST_ROUTINES
-returns-then-routine-lt-MOST_ROUTINES c = sym (row_read _ _ _ _ c.before.if-routine-lt-MOST_ROUTINES.true)
+returns-then-routine-lt-MOST_ROUTINES c = sym (row_read _ _ _ _ c.if-routine-lt-MOST_ROUTINES.true)
 
 pub returns-else-routine-lt-MOST_ROUTINES : goal.returns-else-routine-lt-MOST_ROUTINES
 returns-else-routine-lt-MOST_ROUTINES c = sym (row_beyond _ _ _ _ c.if-routine-lt-MOST_ROUTINES.false)

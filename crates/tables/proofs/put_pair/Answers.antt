@@ -15,7 +15,7 @@ pub returns-then-count-pairs : goal.returns-then-count-pairs
 unfolding pair_put
 returns-then-count-pairs c =
     let room = lt-ltb _ _ c.if-count-pairs.true in
-    (rw room, simp (room, to_z-of_z c.before.ranges.second, to_z_pos w32 c.before.requires))
+    (rw room, simp (room, to_z-of_z c.ranges.second, to_z_pos w32 c.requires))
 
 pub returns : goal.returns
 unfolding pair_put

@@ -32,18 +32,18 @@ loop-at-init c = (refl, omega arith, refl)
 
 pub returns-then-out-end : goal.returns-then-out-end
 returns-then-out-end c =
-    let l = c.before.before.loop-at in
-    full l.out l.end _ l.at c.before.loop-at-test.true c.if-out-end.true ∙ l.invariant.0
+    let l = c.loop-at in
+    full l.out l.end _ l.at c.loop-at-test.true c.if-out-end.true ∙ l.invariant.0
 
 pub loop-at-preserved : goal.loop-at-preserved
 loop-at-preserved c =
-    let l = c.before.before.before.loop-at in (
-      goes l.out l.end _ l.at c.before.before.loop-at-test.true c.before.if-out-end.false ∙ l.invariant.0,
+    let l = c.loop-at in (
+      goes l.out l.end _ l.at c.loop-at-test.true c.if-out-end.false ∙ l.invariant.0,
       omega arith,
       length-set l.out l.end _ ∙ l.invariant.2,
     )
 
 pub returns : goal.returns
 returns c =
-    let l = c.before.loop-at in
+    let l = c.loop-at in
     ends l.out l.end _ l.at c.loop-at-test.false ∙ l.invariant.0

@@ -27,7 +27,7 @@ fewest k n h f =
 
 pub returns : goal.returns
 returns c =
-    let d = c.before.before.before.before.before.hex-count in
+    let d = c.hex-count in
     let s = c.before.before.before.before.before.before.before.before in
     let text = d.ensures.1.1 ∙ fewest d.result s.args.byte s.ranges.byte.fits d.ensures.1.0 in
-    rw text at c.before.before.put.ensures
+    rw text at c.put.ensures

@@ -42,7 +42,7 @@ fewest (suc (suc k)) n fits f =
 
 pub returns : goal.returns
 returns c =
-    let d = c.before.before.before.before.before.decimal-count in
+    let d = c.decimal-count in
     let s = c.before.before.before.before.before.before.before.before in
     let text = d.ensures.1.1 ∙ fewest d.result s.args.n s.ranges.n.fits d.ensures.1.0 in
-    rw text at c.before.before.put.ensures
+    rw text at c.put.ensures

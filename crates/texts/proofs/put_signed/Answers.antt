@@ -15,7 +15,16 @@ use Rattle.numbers.specs.Numbers.{count_of}
 use Rattle.digits.specs.Digits.{minus}
 use Rattle.texts.specs.Texts.{filled, decimal_text, signed_text}
 use Rattle.texts.proofs.Behind.{behind}
+use Rattle.texts.proofs.put_signed.Lts as lts
+use Rattle.texts.proofs.put_signed.Reads as reads
+use Rattle.texts.proofs.put_signed.Tie as tie
 use Rattle.texts.proofs.put_signed.Goals as goal
+
+abbrev After-count-below : Type 0
+After-count-below = lts.After-count tie.the-claims reads.Pre reads.Post
+
+abbrev Then-n-lt0 : Type 0
+Then-n-lt0 = lts.Then1 tie.the-claims reads.Pre reads.Post
 
 below_zero :
     (z : ℤ) → lt_z z (pos 0) ≡ true → (negsuc 0 -ℤ z ≡ pos (mag z)) × (signed_text z ≡ minus ∷ decimal_text (mag z + 1))
@@ -27,22 +36,22 @@ from_zero (pos n) e = refl
 from_zero (negsuc n) e = absurd (subst T e tt)
 
 up :
-    (c : goal.Then-n-lt0) →
-    let n = c.before.before.args.n in (negsuc 0 -ℤ n ≡ pos (mag n)) × (signed_text n ≡ minus ∷ decimal_text (mag n + 1))
-up c = below_zero c.before.before.args.n (rw (to_z-of_z c.before.before.ranges.n) at c.if-n-lt0.true)
+    (c : Then-n-lt0) →
+    let n = c.args.n in (negsuc 0 -ℤ n ≡ pos (mag n)) × (signed_text n ≡ minus ∷ decimal_text (mag n + 1))
+up c = below_zero c.args.n (rw (to_z-of_z c.ranges.n) at c.if-n-lt0.true)
 
-small : (c : goal.Then-n-lt0) → mag c.before.before.args.n < 2 ^ 31
-small c = c.before.before.ranges.n.sfits
+small : (c : Then-n-lt0) → mag c.args.n < 2 ^ 31
+small c = c.ranges.n.sfits
 
 sub-count : goal.overflow-sub-count
 sub-count c =
     let t = c.before.before.before.before.before in
-    rw (to_z-of_z t.before.before.ranges.n, (up t).0) (record { sfits = small t })
+    rw (to_z-of_z t.ranges.n, (up t).0) (record { sfits = small t })
 
-counted : (c : goal.After-count-below) → c.count-below.result ≡ mag c.before.before.before.before.before.before.before.before.args.n
+counted : (c : After-count-below) → c.count-below.result ≡ mag c.args.n
 counted c =
     let t = c.before.before.before.before.before.before in
-    rw (to_z-of_z (sub-count c.before), to_z-of_z t.before.before.ranges.n, (up t).0) at c.count-below.ensures
+    rw (to_z-of_z (sub-count c.before), to_z-of_z t.ranges.n, (up t).0) at c.count-below.ensures
 
 add-put-decimal : goal.overflow-add-put-decimal
 add-put-decimal c =
@@ -53,8 +62,8 @@ pub returns-then-n-lt0 : goal.returns-then-n-lt0
 returns-then-n-lt0 c =
     let n = c.before.before.before.before in
     let t = n.before.before.before.before.before.before in
-    let a = t.before.before.args in
-    let d = rw (counted n, n.before.before.before.put-signed.ensures) at c.before.before.put_decimal.ensures in
+    let a = t.args in
+    let d = rw (counted n, n.put-signed.ensures) at c.put_decimal.ensures in
     rw (up t).1 (d ∙ behind (filled a.out-1.now a.used) (minus ∷ []) (decimal_text (mag a.n + 1)))
 
 pub returns : goal.returns
@@ -62,4 +71,4 @@ returns c =
     let t = c.before.before.before.before.before in
     let s = t.before.before in
     let e = from_zero s.args.n (rw (to_z-of_z s.ranges.n) at t.if-n-lt0.false) in
-    rw e (rw (c.before.before.before.count.ensures, to_z-of_z s.ranges.n) at c.before.before.put_decimal-2.ensures)
+    rw e (rw (c.count.ensures, to_z-of_z s.ranges.n) at c.put_decimal-2.ensures)

@@ -6,5 +6,5 @@ use Rattle.texts.proofs.put_signed_numbered.Goals as goal
 
 pub returns : goal.returns
 returns c =
-    let n = to_z-of_z c.before.before.before.before.before.before.before.before.before.before.ranges.n in
-    then _ _ _ _ _ c.before.before.before.before.before.before.put-end.ensures (rw n at c.before.before.put_signed.ensures)
+    let n = to_z-of_z c.ranges.n in
+    then _ _ _ _ _ c.put-end.ensures (rw n at c.put_signed.ensures)

@@ -7,7 +7,7 @@ pub returns-then-flags-routine : goal.returns-then-flags-routine
 returns-then-flags-routine c = rw c.if-flags-routine.true
 
 pub returns-then-count-ge-MOST_ROUTINES : goal.returns-then-count-ge-MOST_ROUTINES
-returns-then-count-ge-MOST_ROUTINES c = rw (c.before.if-flags-routine.false, le-ltb _ _ c.if-count-ge-MOST_ROUTINES.true)
+returns-then-count-ge-MOST_ROUTINES c = rw (c.if-flags-routine.false, le-ltb _ _ c.if-count-ge-MOST_ROUTINES.true)
 
 pub returns : goal.returns
-returns c = rw (c.before.if-flags-routine.false, lt-ltb _ _ c.if-count-ge-MOST_ROUTINES.false)
+returns c = rw (c.if-flags-routine.false, lt-ltb _ _ c.if-count-ge-MOST_ROUTINES.false)

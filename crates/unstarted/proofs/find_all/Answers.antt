@@ -11,7 +11,13 @@ use lib.ListN.{get_or}
 use Rattle.numbers.proofs.Left.{more_left}
 use Rattle.layout.specs.Layout.{most_routines}
 use Rattle.unstarted.specs.Unstarted.{Search, search_of, with_starts, found_from, found_in}
+use Rattle.unstarted.proofs.find_all.Lts as lts
+use Rattle.unstarted.proofs.find_all.Reads as reads
+use Rattle.unstarted.proofs.find_all.Tie as tie
 use Rattle.unstarted.proofs.find_all.Goals as goal
+
+abbrev At-loop-at : Type 0
+At-loop-at = lts.At-loop tie.the-claims reads.Pre reads.Post
 
 module _ (book : List ℕ) (most at : ℕ) (f : Search) where
   goes :
@@ -32,29 +38,29 @@ pub loop-at-init : goal.loop-at-init
 loop-at-init c = (refl, search rules)
 
 -- what is found at the loop's head
-abbrev found_at : goal.At-loop-at → Search
+abbrev found_at : At-loop-at → Search
 found_at l = search_of l.loop-at.flags l.loop-at.order-1 l.loop-at.count
 
 -- the loop begins with routine 0 alone, so what is found once nothing is left is what the contract asks for
 answers :
-    (l : goal.At-loop-at) →
-    let args = l.before.before.before.before.before.args in
+    (l : At-loop-at) →
+    let args = l.args in
     found_from (most_routines - l.loop-at.at) args.book.now l.loop-at.at (found_at l) ≡ found_at l →
     l.loop-at.flags ≡ (found_in args.book.now args.flags.now).flags
 unfolding found_in
-answers l last = ap (λ (f : Search). f.flags) (sym last ∙ (rw l.before.find-count.ensures at l.loop-at.invariant.0))
+answers l last = ap (λ (f : Search). f.flags) (sym last ∙ (rw l.find-count.ensures at l.loop-at.invariant.0))
 
 pub returns-then-count-at : goal.returns-then-count-at
 returns-then-count-at c =
     let l = c.before.before in
-    answers l (over _ most_routines l.loop-at.at (found_at l) c.before.loop-at-test.true c.if-count-at.true)
+    answers l (over _ most_routines l.loop-at.at (found_at l) c.loop-at-test.true c.if-count-at.true)
 
 pub loop-at-preserved : goal.loop-at-preserved
 loop-at-preserved c =
     let l = c.before.before.before.before.before in
-    let book = l.before.before.before.before.before.args.book.now in
-    let more = c.before.before.before.before.loop-at-test.true in
-    let next = goes book most_routines l.loop-at.at (found_at l) more c.before.before.before.if-count-at.false in
+    let book = l.args.book.now in
+    let more = c.loop-at-test.true in
+    let next = goes book most_routines l.loop-at.at (found_at l) more c.if-count-at.false in
     (rw (c.find_starts_of-count.ensures, ← next) l.loop-at.invariant.0, omega (arith, more))
 
 pub returns : goal.returns

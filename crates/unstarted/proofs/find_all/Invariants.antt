@@ -14,8 +14,8 @@ use Rattle.unstarted.specs.Unstarted.{Search, search_of, with_starts, found_from
 use Rattle.unstarted.proofs.find_all.Given as goal
 
 abbrev pub invariant-loop-at : goal.invariant-loop-at
-invariant-loop-at l = (found_from (most_routines - l.at) l.book l.at (search_of l.flags l.order l.count)
-    ≡ found_from most_routines l.book 0 (search_of l.initial.l.flags l.initial.l.order l.initial.l.count))
+invariant-loop-at l = (found_from (most_routines - l.at) l.book l.at (search_of l.flags l.order-1 l.count)
+    ≡ found_from most_routines l.book 0 (search_of l.initial.l.flags l.initial.l.order-1 l.initial.l.count))
     × (l.at ≤ most_routines)
 
 abbrev pub decreases-loop-at : goal.decreases-loop-at

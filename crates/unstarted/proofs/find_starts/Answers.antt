@@ -23,14 +23,14 @@ module _ (steps : List ℕ) (size at : ℕ) (f : Search) where
   ends h = rw (sub-eq-zero_of_le h)
 
 pub loop-at-init : goal.loop-at-init
-loop-at-init c = (rw (sub-zero (steps_in c.before.args.steps.now)), search rules)
+loop-at-init c = (rw (sub-zero (steps_in c.args.steps.now)), search rules)
 
 -- what is found behind a step
 found_there :
     (c : goal.Joined-steps-step-eq-OP_START) →
     let l = c.before.before.before in
     search_of c.if-steps-step-eq-OP_START.flags c.if-steps-step-eq-OP_START.order c.if-steps-step-eq-OP_START.found
-    ≡ with_step l.before.before.args.steps.now l.loop-at.at (search_of l.loop-at.flags l.loop-at.order l.loop-at.found)
+    ≡ with_step l.args.steps.now l.loop-at.at (search_of l.loop-at.flags l.loop-at.order l.loop-at.found)
 found_there c =
     ⊎_elim
     (λ w. rw (w.5, w.6, w.7, eq-eqb _ _ w.0.taken) w.4.ensures)
@@ -40,8 +40,8 @@ found_there c =
 pub loop-at-preserved : goal.loop-at-preserved
 loop-at-preserved c =
     let l = c.before.before.before in
-    let more = c.before.before.loop-at-test.true in
+    let more = c.loop-at-test.true in
     (rw (found_there c, ← (goes _ _ _ _ more)) l.loop-at.invariant.0, omega (arith, more))
 
 pub returns : goal.returns
-returns c = rw (ends _ _ _ _ c.loop-at-test.false) at c.before.loop-at.invariant.0
+returns c = rw (ends _ _ _ _ c.loop-at-test.false) at c.loop-at.invariant.0

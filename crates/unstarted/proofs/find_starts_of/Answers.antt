@@ -3,4 +3,4 @@ use borrow.Author.Rules.{rules}
 use Rattle.unstarted.proofs.find_starts_of.Goals as goal
 
 pub returns : goal.returns
-returns c = rw c.before.before.before.routine_steps_lem.ensures.0 at c.find_starts.ensures
+returns c = rw c.routine_steps.ensures.0 at c.find_starts.ensures

@@ -42,14 +42,14 @@ loop-routine-init c = let none = sub-zero c.args.all in (rw none, rw none (omega
 pub loop-routine-preserved : goal.loop-routine-preserved
 loop-routine-preserved c =
     let l = c.before.before.before in
-    let args = l.before.args in
+    let args = l.args in
     let r = l.loop-routine.routine in
-    let more = c.before.before.loop-routine-test.true in
+    let more = c.loop-routine-test.true in
     let inv = l.loop-routine.invariant in
     ⊎_elim
     (λ w.
     let here = named args.flags.now args.all r more (not-true _ w.0.taken) in
-    let room : l.loop-routine.count < length l.loop-routine.names = omega (arith, inv.2, inv.4, more, l.before.requires.1) in
+    let room : l.loop-routine.count < length l.loop-routine.names = omega (arith, inv.2, inv.4, more, l.requires.1) in
     rw (w.1, w.2) (
       part_one r l.loop-routine.count (later args.flags.now args.all r) l.loop-routine.names room ∙ (rw here at inv.0),
       omega (arith, rw here at inv.1),
@@ -64,7 +64,7 @@ loop-routine-preserved c =
 
 pub returns : goal.returns
 returns c =
-    let l = c.before.loop-routine in
-    let args = c.before.before.args in
+    let l = c.loop-routine in
+    let args = c.args in
     let none = over args.flags.now args.all l.routine c.loop-routine-test.false in
     (omega (arith, rw none at l.invariant.1), sym (take-append-drop l.count l.names) ∙ (rw none at l.invariant.0))

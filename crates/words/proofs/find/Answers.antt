@@ -29,12 +29,12 @@ module _ (text : List ℕ) (c at : ℕ) where
 pub returns-then-text-at : goal.returns-then-text-at
 returns-then-text-at c =
     let l = c.before.before.before in
-    (sym (stops _ _ _ c.before.before.loop-at-test.true c.if-text-at.true) ∙ l.loop-at.invariant.0, l.loop-at.invariant.1, l.loop-at.invariant.2)
+    (sym (stops _ _ _ c.loop-at-test.true c.if-text-at.true) ∙ l.loop-at.invariant.0, l.loop-at.invariant.1, l.loop-at.invariant.2)
 
 pub loop-at-preserved : goal.loop-at-preserved
 loop-at-preserved c =
     let l = c.before.before.before in
-    (sym (goes _ _ _ c.before.before.loop-at-test.true c.if-text-at.false) ∙ l.loop-at.invariant.0, search rules, search rules)
+    (sym (goes _ _ _ c.loop-at-test.true c.if-text-at.false) ∙ l.loop-at.invariant.0, search rules, search rules)
 
 pub returns : goal.returns
 returns c =

@@ -5,4 +5,4 @@ use Rattle.numbers.proofs.Parts.{part_to}
 use Rattle.words.proofs.first.Goals as goal
 
 pub returns : goal.returns
-returns c = part_to _ c.before.find-end.ensures.0
+returns c = part_to _ c.find-end.ensures.0

@@ -28,14 +28,14 @@ loop-at-init c = search rules
 pub returns-then-word-at : goal.returns-then-word-at
 returns-then-word-at c =
     let l = c.before.before.before in
-    sym (all_fails _ _ _ l.loop-at-test.true (ne_eqb _ _ c.if-word-at.true)) ∙ as_long _ _ l.before.before.if-word-name.false
+    sym (all_fails _ _ _ l.loop-at-test.true (ne_eqb _ _ c.if-word-at.true)) ∙ as_long _ _ l.if-word-name.false
 
 pub loop-at-preserved : goal.loop-at-preserved
 loop-at-preserved c =
     let l = c.before.before.before in
-    (all_next _ _ l.before.loop-at.invariant.0 (eq-eqb _ _ c.if-word-at.false), search rules)
+    (all_next _ _ l.loop-at.invariant.0 (eq-eqb _ _ c.if-word-at.false), search rules)
 
 pub returns : goal.returns
 returns c =
-    let l = c.before.loop-at in
-    sym (all_ends _ l.invariant.0 l.invariant.1 c.loop-at-test.false) ∙ as_long _ _ c.before.before.if-word-name.false
+    let l = c.loop-at in
+    sym (all_ends _ l.invariant.0 l.invariant.1 c.loop-at-test.false) ∙ as_long _ _ c.if-word-name.false

@@ -7,7 +7,7 @@ use Rattle.numbers.proofs.Parts.{part_to}
 use Rattle.words.proofs.part.Goals as goal
 
 pub returns-then-bytes-count : goal.returns-then-bytes-count
-returns-then-bytes-count c = let args = c.before.args in sym (take_all args.count args.bytes.now (search rules))
+returns-then-bytes-count c = let args = c.args in sym (take_all args.count args.bytes.now (search rules))
 
 pub returns : goal.returns
-returns c = let args = c.before.before.args in part_to args.bytes.now {a = args.count} refl
+returns c = let args = c.args in part_to args.bytes.now {a = args.count} refl

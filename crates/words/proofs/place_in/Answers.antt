@@ -50,18 +50,18 @@ pub returns-then-is : goal.returns-then-is
 returns-then-is c =
     let f = c.before.before.before in
     let l = f.before.before in
-    let same = sym c.before.is.ensures ∙ c.if-is.true in
-    sym (stops _ _ _ _ _ f.find-end.ensures.0 l.loop-at.invariant.1 f.before.loop-at-test.true same) ∙ l.loop-at.invariant.0
+    let same = sym c.is.ensures ∙ c.if-is.true in
+    sym (stops _ _ _ _ _ f.find-end.ensures.0 l.loop-at.invariant.1 f.loop-at-test.true same) ∙ l.loop-at.invariant.0
 
 pub loop-at-preserved : goal.loop-at-preserved
 loop-at-preserved c =
     let f = c.before.before.before in
     let l = f.before.before in
-    let other = sym c.before.is.ensures ∙ c.if-is.false in (
-      sym (goes _ _ _ _ _ f.find-end.ensures.0 l.loop-at.invariant.1 f.before.loop-at-test.true other) ∙ l.loop-at.invariant.0,
+    let other = sym c.is.ensures ∙ c.if-is.false in (
+      sym (goes _ _ _ _ _ f.find-end.ensures.0 l.loop-at.invariant.1 f.loop-at-test.true other) ∙ l.loop-at.invariant.0,
       search rules,
       search rules,
     )
 
 pub returns : goal.returns
-returns c = sym (ends _ _ _ _ _ c.loop-at-test.false) ∙ c.before.loop-at.invariant.0
+returns c = sym (ends _ _ _ _ _ c.loop-at-test.false) ∙ c.loop-at.invariant.0

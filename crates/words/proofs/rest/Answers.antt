@@ -14,7 +14,7 @@ nothing s {a} {b} e h =
     rest_from s refl ∙ drop_of_length-le s {i = a} h ∙ sym (drop_of_length-le s {i = b + 1} (omega (arith, e, h)))
 
 pub returns-then-end-text : goal.returns-then-end-text
-returns-then-end-text c = rest_from _ (ap (λ i. i + 1) c.before.before.find-end.ensures.0)
+returns-then-end-text c = rest_from _ (ap (λ i. i + 1) c.find-end.ensures.0)
 
 pub returns : goal.returns
-returns c = nothing _ c.before.before.find-end.ensures.0 c.before.if-end-text.false
+returns c = nothing _ c.find-end.ensures.0 c.if-end-text.false

@@ -4,4 +4,4 @@ use borrow.Author.Rules.{rules}
 use Rattle.zulqenat.proofs.zulqenat_check_book.Goals as goal
 
 pub returns : goal.returns
-returns c = c.verdict_of.ensures ∙ c.before.read_book.ensures
+returns c = c.verdict_of.ensures ∙ c.read_book.ensures

@@ -13,25 +13,31 @@ use Rattle.book.specs.Book.{book_verdict}
 use Rattle.book.specs.Accepted.{Accepted}
 use Rattle.book.proofs.Reasons.{number_accepted}
 use Rattle.book.proofs.Routines.{none_shown, shown_routine, shown_from_lem}
+use Rattle.zulqenat.proofs.zulqenat_show.Lts as lts
+use Rattle.zulqenat.proofs.zulqenat_show.Reads as reads
+use Rattle.zulqenat.proofs.zulqenat_show.Tie as tie
 use Rattle.zulqenat.proofs.zulqenat_show.Goals as goal
 
-read : (c : goal.After-verdict_of-verdict) → c.verdict_of-verdict.result ≡ book_verdict c.before.before.before.args.book.now
-read c = c.verdict_of-verdict.ensures ∙ c.before.read_book.ensures
+abbrev After-verdict_of-verdict : Type 0
+After-verdict_of-verdict = lts.After-verdict_of tie.the-claims reads.Pre reads.Post
 
-accepted_book : (c : goal.Else-verdict-ne0) → Accepted c.before.before.before.before.before.args.book.now
+read : (c : After-verdict_of-verdict) → c.verdict_of-verdict.result ≡ book_verdict c.args.book.now
+read c = c.verdict_of-verdict.ensures ∙ c.read_book.ensures
+
+accepted_book : (c : goal.Else-verdict-ne0) → Accepted c.args.book.now
 accepted_book c = number_accepted _ (ap (λ (v : Verdict). v.number) (sym (read c.before.before)) ∙ c.if-verdict-ne0.false)
 
 pub returns-then-verdict-ne0 : goal.returns-then-verdict-ne0
 returns-then-verdict-ne0 c =
     let v = c.before.before in
-    let a = v.before.before.before.args in
+    let a = v.args in
     let none = none_shown a.book.now a.routine (rw (ne_eqb _ 0 (rw (read v) at c.if-verdict-ne0.true))) in
     (sym none.1, sym (ap length none.0))
 
 pub returns-then-routines-at : goal.returns-then-routines-at
 returns-then-routines-at c =
-    let a = c.before.before.before.before.before.before.before.args in
-    let beyond : routines_of a.book.now ≤ a.routine = omega (arith, c.if-routines-at.true, c.before.routines.ensures.0) in
+    let a = c.args in
+    let beyond : routines_of a.book.now ≤ a.routine = omega (arith, c.if-routines-at.true, c.routines.ensures.0) in
     let none = none_shown a.book.now a.routine (rw (le-ltb a.routine (routines_of a.book.now) beyond, and-false)) in
     (sym none.1, sym (ap length none.0))
 
@@ -39,9 +45,9 @@ pub returns : goal.returns
 returns c =
     let p = c.before.before in
     let e = p.before.before.before in
-    let a = e.before.before.before.before.before.args in
+    let a = e.args in
     let book = accepted_book e in
-    let h : a.routine < routines_of a.book.now = omega (arith, p.before.if-routines-at.false, p.before.before.routines.ensures.0) in (
-      rw (shown_from_lem _ book _ h, c.before.steps_from.ensures.0, c.first_step.ensures.0),
-      rw (shown_routine _ book _ h, ← p.routine_steps_lem.ensures.0),
+    let h : a.routine < routines_of a.book.now = omega (arith, p.if-routines-at.false, p.routines.ensures.0) in (
+      rw (shown_from_lem _ book _ h, c.steps_from.ensures.0, c.first_step.ensures.0),
+      rw (shown_routine _ book _ h, ← p.routine_steps-steps.ensures.0),
     )

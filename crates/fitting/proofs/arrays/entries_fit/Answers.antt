@@ -17,9 +17,9 @@ use Rattle.fitting.proofs.Flagged.{flagged_none, flagged_next, flagged_all, entr
 use Rattle.fitting.proofs.arrays.entries_fit.Goals as goal
 
 -- an entry is a byte
-small : (c : goal.In-loop-at) → item_at c.before.before.args.t1 c.before.loop-at.at < byte_limit
+small : (c : goal.In-loop-at) → item_at c.args.t1 c.loop-at.at < byte_limit
 small c =
-    let byte : Fits w8 (item_at c.before.before.args.t1 c.before.loop-at.at) = search rules in
+    let byte : Fits w8 (item_at c.args.t1 c.loop-at.at) = search rules in
     omega (arith, byte.fits)
 
 pub loop-at-init : goal.loop-at-init
@@ -33,31 +33,31 @@ loop-at-init c = (
 
 pub returns-then-routines-item : goal.returns-then-routines-item
 returns-then-routines-item c =
-    let l = c.before.before.before.loop-at in
-    let used = c.before.before.loop-at-test.true in
+    let l = c.loop-at in
+    let used = c.loop-at-test.true in
     (sym (all_fails (entry_fits _ _) _ l.at used (entry_beyond _ _ used c.if-routines-item.true)), λ e. clash e refl)
 
 pub returns-then-seen-item : goal.returns-then-seen-item
 returns-then-seen-item c =
     let i = c.before.before.before.before in
-    let l = i.before.loop-at in
+    let l = i.loop-at in
     let twice = entry_twice _ _ i.loop-at-test.true l.seen l.invariant.2 (small i) c.if-seen-item.true in
     (sym (all_fails (entry_fits _ _) _ l.at i.loop-at-test.true twice), λ e. clash e refl)
 
 pub loop-at-preserved : goal.loop-at-preserved
 loop-at-preserved c =
     let i = c.before.before.before.before in
-    let l = i.before.loop-at in
-    let new = entry_new _ _ i.loop-at-test.true l.seen l.invariant.2 (small i) c.before.before.if-routines-item.false c.if-seen-item.false in (
+    let l = i.loop-at in
+    let new = entry_new _ _ i.loop-at-test.true l.seen l.invariant.2 (small i) c.if-routines-item.false c.if-seen-item.false in (
       all_next (entry_fits _ _) l.at l.invariant.0 new,
       search rules,
-      flagged_next i.before.before.args.t1 l.seen l.at (omega arith) (omega (arith, small i)) l.invariant.2,
+      flagged_next i.args.t1 l.seen l.at (omega arith) (omega (arith, small i)) l.invariant.2,
       search rules,
     )
 
 pub returns : goal.returns
 returns c =
-    let l = c.before.loop-at in (
+    let l = c.loop-at in (
       sym (all_ends (entry_fits _ _) l.invariant.0 l.invariant.1 c.loop-at-test.false),
       λ _. flagged_all _ l.seen l.invariant.1 c.loop-at-test.false l.invariant.2,
     )

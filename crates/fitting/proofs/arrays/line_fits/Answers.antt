@@ -14,19 +14,19 @@ returns-then-line-gt-MOST_ENTRIES c = (rw (lt-leb _ _ c.if-line-gt-MOST_ENTRIES.
 
 pub returns-then-not-entries_fit : goal.returns-then-not-entries_fit
 returns-then-not-entries_fit c =
-    let entries = c.before.entries_fit in
+    let entries = c.entries_fit in
     let left = c.before.before.before in
-    let args = left.before.before.args in (
+    let args = left.args in (
       rw (line_parts args.line args.routines left.if-line-gt-MOST_ENTRIES.false, ← entries.ensures.0, not-true entries.result c.if-not-entries_fit.true),
       λ e. clash e refl,
     )
 
 pub returns : goal.returns
 returns c =
-    let entries = c.before.before.entries_fit in
+    let entries = c.entries_fit in
     let left = c.before.before.before.before in
-    let args = left.before.before.args in
-    let fit = not-false entries.result c.before.if-not-entries_fit.false in (
+    let args = left.args in
+    let fit = not-false entries.result c.if-not-entries_fit.false in (
       rw (line_parts args.line args.routines left.if-line-gt-MOST_ENTRIES.false, ← entries.ensures.0, fit) c.rest_fits.ensures,
       λ _. entries.ensures.1 fit,
     )

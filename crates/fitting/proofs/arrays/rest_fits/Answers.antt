@@ -13,11 +13,11 @@ use Rattle.fitting.proofs.arrays.rest_fits.Goals as goal
 
 pub loop-at-preserved : goal.loop-at-preserved
 loop-at-preserved c =
-    let l = c.before.before.before.loop-at in
+    let l = c.loop-at in
     ⊎_elim
-    (λ w. turn_fails most_entries _ l.fit l.at l.invariant w.1 c.before.before.loop-at-test.true (ne_eqb _ _ w.0.taken))
+    (λ w. turn_fails most_entries _ l.fit l.at l.invariant w.1 c.loop-at-test.true (ne_eqb _ _ w.0.taken))
     (λ w. turn_fits most_entries _ l.fit l.at l.invariant w.1 (eq-eqb _ _ w.0.left))
     c.if-line-at-ne0.branch
 
 pub returns : goal.returns
-returns c = turns_end most_entries _ _ c.before.loop-at.at c.before.loop-at.invariant c.loop-at-test.false
+returns c = turns_end most_entries _ _ c.loop-at.at c.loop-at.invariant c.loop-at-test.false

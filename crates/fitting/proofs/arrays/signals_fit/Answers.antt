@@ -13,12 +13,12 @@ use Rattle.fitting.proofs.arrays.signals_fit.Goals as goal
 
 pub loop-at-preserved : goal.loop-at-preserved
 loop-at-preserved c =
-    let l = c.before.before.before.loop-at in
+    let l = c.loop-at in
     ⊎_elim
-    (λ w. turn_fails most_signals _ l.fit l.at l.invariant w.1 c.before.before.loop-at-test.true (rw w.0.taken))
+    (λ w. turn_fails most_signals _ l.fit l.at l.invariant w.1 c.loop-at-test.true (rw w.0.taken))
     (λ w. turn_fits most_signals _ l.fit l.at l.invariant w.1 (rw w.0.left))
     c.if-flags-at.branch
 
 pub returns : goal.returns
 unfolding signals_fit all_from
-returns c = turns_end most_signals _ _ c.before.loop-at.at c.before.loop-at.invariant c.loop-at-test.false
+returns c = turns_end most_signals _ _ c.loop-at.at c.loop-at.invariant c.loop-at-test.false

@@ -11,12 +11,12 @@ returns-then-x c =
     let taken = steps.before.before in
     rw (
       taken.if-x.true,
-      c.timed_count_lem.ensures,
-      step.step_within_lem.ensures,
-      taken.before.before.requires,
+      c.timed_count.ensures,
+      step.step_within-step.ensures,
+      taken.requires,
       step_within_lem,
-      steps.routine_steps_lem.ensures.0,
+      steps.routine_steps.ensures.0,
     )
 
 pub returns-else-x : goal.returns-else-x
-returns-else-x c = rw c.before.if-x.false
+returns-else-x c = rw c.if-x.false

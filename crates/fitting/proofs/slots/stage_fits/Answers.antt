@@ -14,4 +14,4 @@ beyond_last : (stage : ℕ) (listed : Bool) → stopped < stage → false ≡ st
 beyond_last stage listed h = rw get_or-eq_default
 
 pub returns-in_default : goal.returns-in_default
-returns-in_default c = beyond_last c.before.args.stage c.before.args.listed (omega arith)
+returns-in_default c = beyond_last c.args.stage c.args.listed (omega arith)

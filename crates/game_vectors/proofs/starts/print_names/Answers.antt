@@ -10,4 +10,4 @@ use Rattle.game_vectors.proofs.starts.print_names.Invariants.{room}
 use Rattle.game_vectors.proofs.starts.print_names.Goals as goal
 
 byte_fits : goal.overflow-cast-numbers-3
-byte_fits c = omega (arith, c.shared_slice_known-in-loop-used-1.given c.before.before.before.before.before.loop-used.at)
+byte_fits c = omega (arith, c.shared_slice_known-in-loop-used-1.given c.loop-used.at)

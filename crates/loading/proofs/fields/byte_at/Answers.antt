@@ -6,5 +6,5 @@ use Rattle.loading.proofs.fields.byte_at.Goals as goal
 
 pub returns-else-at-s : goal.returns-else-at-s
 returns-else-at-s c =
-    let a = c.before.args in
+    let a = c.args in
     omega (arith, get_or-eq_default a.s.now 0 {n = a.at} (omega arith))

@@ -3,4 +3,4 @@ use borrow.Author.Rules.{rules}
 use Rattle.loading.proofs.fields.signal_in.Goals as goal
 
 pub returns : goal.returns
-returns c = rw (← c.before.byte_at.ensures) c.has_bit.ensures
+returns c = rw (← c.byte_at.ensures) c.has_bit.ensures

@@ -23,28 +23,28 @@ none_set s from at i first zero l h =
 pub returns-then-byte_at-eq0 : goal.returns-then-byte_at-eq0
 returns-then-byte_at-eq0 c =
     let t = c.before.before in
-    let a = t.before.before.args in
+    let a = t.args in
     record {
       few = omega arith;
       none = λ z. absurd (omega (arith, z));
-      clear = λ i. none_set a.bytes.now a.from a.at i t.if-at-eq0.true (sym c.before.byte_at.ensures ∙ c.if-byte_at-eq0.true);
+      clear = λ i. none_set a.bytes.now a.from a.at i t.if-at-eq0.true (sym c.byte_at.ensures ∙ c.if-byte_at-eq0.true);
     }
 
 pub returns-then-signal_in : goal.returns-then-signal_in
 returns-then-signal_in c =
     record {
       few = omega arith;
-      none = λ z. sym c.before.signal_in.ensures ∙ c.if-signal_in.true;
+      none = λ z. sym c.signal_in.ensures ∙ c.if-signal_in.true;
       clear = λ i l h. absurd (omega (arith, l, h));
     }
 
 pub returns-else-signal_in : goal.returns-else-signal_in
 returns-else-signal_in c =
-    let a = c.before.before.before.before.args in
+    let a = c.args in
     record {
       few = omega arith;
       none = λ z. absurd (omega (arith, z));
       clear = λ i l h.
           let here : i ≡ a.at = omega (arith, l, h) in
-          rw here (sym c.before.signal_in.ensures ∙ c.if-signal_in.false);
+          rw here (sym c.signal_in.ensures ∙ c.if-signal_in.false);
     }

@@ -12,16 +12,16 @@ use Rattle.loading.proofs.formed.parts_of.Goals as goal
 records :
     (c : goal.After-struct_known-2-1) →
     let start = c.before.before.before.before in
-    let counts = c.before.before.counts_in-counts.result in
+    let counts = c.counts_in-counts.result in
     start.args.form.recordsize * counts.routines ≤ field_bytes * counts.routines
-records c = record_bytes c.before.before.before.before.requires _
+records c = record_bytes c.requires _
 
 pub returns : goal.returns
 unfolding parts_of
 returns c =
     let second = c.before in
     let first = second.before in
-    let counts = first.before.before.before.before.counts_in-counts.ensures in
+    let counts = first.counts_in-counts.ensures in
     let bytes = records first.before.before in (
       rw (second.list_end-broadcast.ensures.0, first.list_end-starting.ensures.0, counts.0),
       omega (arith, bytes, counts.1),

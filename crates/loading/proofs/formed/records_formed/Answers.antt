@@ -12,7 +12,16 @@ use Rattle.numbers.proofs.Below.{all_fails, all_next, all_ends}
 use Rattle.stored_games.specs.Stored.{game_header_bytes}
 use Rattle.stored_games.specs.Reading.{record_at, record_formed}
 use Rattle.loading.proofs.Records.{record_within, record_part}
+use Rattle.loading.proofs.formed.records_formed.Lts as lts
+use Rattle.loading.proofs.formed.records_formed.Reads as reads
+use Rattle.loading.proofs.formed.records_formed.Tie as tie
 use Rattle.loading.proofs.formed.records_formed.Goals as goal
+
+abbrev After-record_formed : Type 0
+After-record_formed = lts.After-record_formed tie.the-claims reads.Pre reads.Post
+
+abbrev Start : Type 0
+Start = lts.Start tie.the-claims reads.Pre reads.Post
 
 pub loop-done-init : goal.loop-done-init
 unfolding all_below
@@ -23,21 +32,21 @@ within :
     (c : goal.In-loop-done) →
     let s = c.before.before.before in
     let size = s.args.form.recordsize in
-    game_header_bytes + size * c.before.loop-done.done + size ≤ length s.args.bytes.now
+    game_header_bytes + size * c.loop-done.done + size ≤ length s.args.bytes.now
 within c = let s = c.before.before.before in record_within s.args.form s.requires.1 c.loop-done-test.true
 
 -- the contract's test of a record
-abbrev test : goal.Start → ℕ → Bool
+abbrev test : Start → ℕ → Bool
 test c i = record_formed (record_at c.args.form c.args.bytes.now i)
 
 -- the answer of the call is that test
 formed :
-    (c : goal.After-record_formed) →
+    (c : After-record_formed) →
     let l = c.before.before.before in
     test l.before.before l.loop-done.done ≡ c.record_formed.result
 formed c =
     let l = c.before.before.before in
-    let a = l.before.before.args in
+    let a = l.args in
     rw (← (record_part a.form a.bytes.now l.loop-done.done)) (sym c.record_formed.ensures)
 
 pub returns-then-not-record_formed : goal.returns-then-not-record_formed

@@ -13,10 +13,16 @@ use Rattle.numbers.specs.Counting.{all_below, all_from}
 use Rattle.numbers.proofs.Below.{all_holds, all_true, all_fails}
 use Rattle.stored_games.specs.Reading.{signal_in}
 use Rattle.loading.proofs.formed.set_formed.Invariants.{signal_passes}
+use Rattle.loading.proofs.formed.set_formed.Lts as lts
+use Rattle.loading.proofs.formed.set_formed.Reads as reads
+use Rattle.loading.proofs.formed.set_formed.Tie as tie
 use Rattle.loading.proofs.formed.set_formed.Goals as goal
 
+abbrev Start : Type 0
+Start = lts.Start tie.the-claims reads.Pre reads.Post
+
 -- the contract's test of a bit
-abbrev test : goal.Start → ℕ → Bool
+abbrev test : Start → ℕ → Bool
 test c = signal_passes c.args.bytes.now c.args.from c.args.signals
 
 pub loop-at-init : goal.loop-at-init
@@ -26,10 +32,10 @@ pub returns-then-clear-eq0 : goal.returns-then-clear-eq0
 unfolding all_from
 returns-then-clear-eq0 c =
     let i = c.before.before in
-    let l = i.before.loop-at in
+    let l = i.loop-at in
     sym
     (all_fails (test i.before.before.before.before) _ l.at i.loop-at-test.true
-    (rw (le-ltb l.at _ l.invariant.1, c.before.clear_from-clear.ensures.none c.if-clear-eq0.true)))
+    (rw (le-ltb l.at _ l.invariant.1, c.clear_from-clear.ensures.none c.if-clear-eq0.true)))
 
 pub loop-at-preserved : goal.loop-at-preserved
 loop-at-preserved c =
@@ -37,7 +43,7 @@ loop-at-preserved c =
     let l = h.loop-at in
     let s = h.before.before.before in
     let t = test s in
-    let clear = c.before.clear_from-clear.ensures in (
+    let clear = c.clear_from-clear.ensures in (
       all_true t _ (λ i below.
           elim (dec_lt i l.at) [
             | yes k ↦ all_holds t l.at l.invariant.0 i k
@@ -49,6 +55,6 @@ loop-at-preserved c =
 pub returns : goal.returns
 unfolding all_from
 returns c =
-    let l = c.before.loop-at in
+    let l = c.loop-at in
     let t = test c.before.before.before.before in
     sym (all_true t _ (λ i h. all_holds t l.at l.invariant.0 i (omega (arith, h, c.loop-at-test.false))))

@@ -20,11 +20,11 @@ loop-done-init c = (slots_none _ _ _, search rules)
 
 pub loop-done-preserved : goal.loop-done-preserved
 loop-done-preserved c =
-    let l = c.before.before.loop-done in
+    let l = c.loop-done in
     let fits : SFits w32 c.number_at.result = search rules in
     (slots_next _ _ _ l.done l.invariant.0 (to_z-of_z fits ∙ c.number_at.ensures), search rules)
 
 pub returns : goal.returns
 returns c =
-    let l = c.before.loop-done in
+    let l = c.loop-done in
     slots_end _ _ _ l.invariant.0 l.invariant.1 c.loop-done-test.false

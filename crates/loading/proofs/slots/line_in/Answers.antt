@@ -13,10 +13,10 @@ loop-done-init c = (slots_none _ _ _, search rules)
 
 pub loop-done-preserved : goal.loop-done-preserved
 loop-done-preserved c =
-    let l = c.before.before.loop-done in
+    let l = c.loop-done in
     (slots_next _ _ _ l.done l.invariant.0 refl, search rules)
 
 pub returns : goal.returns
 returns c =
-    let l = c.before.loop-done in
-    rw (slots_end _ _ _ l.invariant.0 l.invariant.1 c.loop-done-test.false, c.before.before.half_at-len.ensures.0)
+    let l = c.loop-done in
+    rw (slots_end _ _ _ l.invariant.0 l.invariant.1 c.loop-done-test.false, c.half_at-len.ensures.0)

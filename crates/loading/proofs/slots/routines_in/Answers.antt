@@ -20,20 +20,20 @@ within :
     (c : goal.In-loop-done) →
     let s = c.before.before.before.before in
     let size = s.args.form.recordsize in
-    game_header_bytes + size * c.before.loop-done.done + size ≤ length s.args.bytes.now
+    game_header_bytes + size * c.loop-done.done + size ≤ length s.args.bytes.now
 within c = let s = c.before.before.before.before in record_within s.args.form s.requires.1.1 c.loop-done-test.true
 
 pub loop-done-preserved : goal.loop-done-preserved
 loop-done-preserved c =
-    let l = c.before.before.before.loop-done in
-    let a = c.before.before.before.before.before.before.args in (
+    let l = c.loop-done in
+    let a = c.args in (
       slots_next _ _ _ l.done l.invariant.0 (c.routine_by_record.ensures ∙ rw (record_part a.form a.bytes.now l.done)),
       search rules,
     )
 
 pub returns : goal.returns
 returns c =
-    let l = c.before.loop-done in
+    let l = c.loop-done in
     slots_end _ _ _ l.invariant.0 l.invariant.1 c.loop-done-test.false
 
 pub overflow_mul-from : goal.overflow_mul-from

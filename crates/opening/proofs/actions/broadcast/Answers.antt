@@ -21,16 +21,16 @@ loop-at-init c = (refl, search rules)
 
 pub loop-at-preserved : goal.loop-at-preserved
 loop-at-preserved c =
-    let l = c.before.before.before.loop-at in
+    let l = c.loop-at in
     let s = c.before.before.before.before in
-    let more = c.before.before.loop-at-test.true in (
+    let more = c.loop-at-test.true in (
       rw (c.put_present.ensures, ← (signal_on s.args.t1 l.flags present_row l.at (omega (arith, long s, more)))) l.invariant.0,
       omega (arith, more),
     )
 
 pub returns : goal.returns
 returns c =
-    let l = c.before.loop-at in
+    let l = c.loop-at in
     let s = c.before.before in
     let over = signal_over s.args.t1 l.flags present_row l.at (omega (arith, long s, c.loop-at-test.false)) in
     rw over at l.invariant.0

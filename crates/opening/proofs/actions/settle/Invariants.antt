@@ -14,7 +14,7 @@ use Rattle.opening.proofs.actions.settle.Given as goal
 
 abbrev pub invariant-loop-at : goal.invariant-loop-at
 invariant-loop-at l = (settled l.flags (drop l.at (entries_of l.l.initial.l.len)) l.fields ≡ settled l.flags (entries_of l.l.initial.l.len) l.l.l.initial.l.len)
-    × (settled_line l.flags (drop l.at (entries_of l.l.initial.l.len)) l.fields (line_of l.items l.len) ≡ settled_line l.flags (entries_of l.l.initial.l.len) l.l.l.initial.l.len empty)
+    × (settled_line l.flags (drop l.at (entries_of l.l.initial.l.len)) l.fields (line_of l.items-1 l.len) ≡ settled_line l.flags (entries_of l.l.initial.l.len) l.l.l.initial.l.len empty)
     × (l.at ≤ l.initial.l.len)
 
 abbrev pub decreases-loop-at : goal.decreases-loop-at

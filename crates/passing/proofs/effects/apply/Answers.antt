@@ -15,40 +15,40 @@ use Rattle.passing.proofs.effects.apply.Goals as goal
 
 -- each effect names what the tables have a place for
 pub put_counter-requires : goal.put_counter-requires
-put_counter-requires c = rw c.before.before.in-Put.is at c.before.before.before.before.requires.1.0
+put_counter-requires c = rw c.in-Put.is at c.requires.1.0
 
 pub put_counter-requires-in-Add : goal.put_counter-requires-in-Add
-put_counter-requires-in-Add c = rw c.before.before.before.in-Add.is at c.before.before.before.before.before.requires.1.0
+put_counter-requires-in-Add c = rw c.in-Add.is at c.requires.1.0
 
 -- and leaves room for what it cuts off
 pub overflow_add-tally : goal.overflow_add-tally
 overflow_add-tally c =
     let events = c.before.before.before.before.before.before in
-    let room = rw events.in-Add.is at events.before.before.requires.1.1 in
+    let room = rw events.in-Add.is at events.requires.1.1 in
     record { fits = omega (arith, room) }
 
 pub put_present-requires : goal.put_present-requires
-put_present-requires c = rw c.before.before.in-Give.is at c.before.before.before.before.requires.1.0
+put_present-requires c = rw c.in-Give.is at c.requires.1.0
 
 pub put_present-requires-in-GiveNumber : goal.put_present-requires-in-GiveNumber
-put_present-requires-in-GiveNumber c = rw c.before.before.in-GiveNumber.is at c.before.before.before.before.requires.1.0
+put_present-requires-in-GiveNumber c = rw c.in-GiveNumber.is at c.requires.1.0
 
 pub put_pair-requires-in-GiveNumber : goal.put_pair-requires-in-GiveNumber
 put_pair-requires-in-GiveNumber c =
     let events = c.before.before.before.before in
-    let below = rw events.in-GiveNumber.is at events.before.before.requires.1.0 in
+    let below = rw events.in-GiveNumber.is at events.requires.1.0 in
     omega arith
 
 pub start-requires : goal.start-requires
 start-requires c =
-    let p = c.before.before.before.before.requires in
-    (p.0.starting_fits, rw c.before.before.in-Start.is at p.1.0)
+    let p = c.requires in
+    (p.0.starting_fits, rw c.in-Start.is at p.1.0)
 
 pub returns-in-Nothing : goal.returns-in-Nothing
 unfolding effect_on marks_put
 returns-in-Nothing c =
     let e = c.in-Nothing.is in
-    (λ g eoi. rw e, (c.before.before.requires.0, rw e))
+    (λ g eoi. rw e, (c.requires.0, rw e))
 
 pub returns-in-Mark : goal.returns-in-Mark
 unfolding marks_put
@@ -56,8 +56,8 @@ returns-in-Mark c =
     let events = c.before.before.before.before in
     let e = events.in-Mark.is in
     let fits : SFits w32 events.in-Mark.n = search rules in
-    let whole = events.before.before.requires.0 in
-    let put = c.before.put_pair.ensures in (
+    let whole = events.requires.0 in
+    let put = c.put_pair.ensures in (
       λ g eoi. rw e (mark_held g _ _ _ _ _ eoi _ _),
       (still_whole whole refl refl whole.starting_fits whole.given_fits, rw (e, put.0, put.1, to_z-of_z fits)),
     )
@@ -68,7 +68,7 @@ returns-in-Put c =
     let events = c.before.before.before in
     let e = events.in-Put.is in
     let fits : SFits w32 events.in-Put.v = search rules in
-    (λ g eoi. rw (e, c.put_counter.ensures, to_z-of_z fits) (put_held g _ _ _ _ _ eoi _ _), (events.before.before.requires.0, rw e))
+    (λ g eoi. rw (e, c.put_counter.ensures, to_z-of_z fits) (put_held g _ _ _ _ _ eoi _ _), (events.requires.0, rw e))
 
 pub returns-in-Add : goal.returns-in-Add
 unfolding marks_put
@@ -76,8 +76,8 @@ returns-in-Add c =
     let events = c.before.before.before.before.before.before in
     let e = events.in-Add.is in
     let fits : SFits w32 events.in-Add.v.sum = search rules in
-    let whole = events.before.before.requires.0 in
-    let put = c.before.before.put_counter-in-Add.ensures in (
+    let whole = events.requires.0 in
+    let put = c.put_counter-in-Add.ensures in (
       λ g eoi. rw (e, put, to_z-of_z fits) (add_held g _ _ _ _ _ eoi _ _),
       (still_whole whole refl refl whole.starting_fits whole.given_fits, rw e),
     )
@@ -85,8 +85,8 @@ returns-in-Add c =
 pub returns-in-Give : goal.returns-in-Give
 unfolding marks_put
 returns-in-Give c =
-    let e = c.before.before.before.in-Give.is in
-    let whole = c.before.before.before.before.before.requires.0 in
+    let e = c.in-Give.is in
+    let whole = c.requires.0 in
     let put = c.put_present.ensures in (
       λ g eoi. rw (e, put) (give_held g _ _ _ _ _ eoi _),
       (still_whole whole (rw (put, length-set)) refl whole.starting_fits whole.given_fits, rw e),
@@ -98,10 +98,10 @@ returns-in-GiveNumber c =
     let events = c.before.before.before.before.before.before in
     let e = events.in-GiveNumber.is in
     let fits : SFits w32 events.in-GiveNumber.v = search rules in
-    let p = events.before.before.requires in
+    let p = events.requires in
     let room = rw e at p.1.1 in
-    let present = c.before.before.before.put_present-in-GiveNumber.ensures in
-    let put = c.before.put_pair-in-GiveNumber.ensures in
+    let present = c.put_present-in-GiveNumber.ensures in
+    let put = c.put_pair-in-GiveNumber.ensures in
     let count = rw (lt-ltb _ _ room) at put.0 in (
       λ g eoi. rw (e, present, count, put.1, to_z-of_z fits) (give_number_held g _ _ _ _ _ eoi _ _ room),
       (still_whole p.0 (rw (present, length-set)) refl p.0.starting_fits (omega (arith, room, count)), rw e),
@@ -110,8 +110,8 @@ returns-in-GiveNumber c =
 pub returns-in-Start : goal.returns-in-Start
 unfolding marks_put
 returns-in-Start c =
-    let e = c.before.before.before.in-Start.is in
-    let p = c.before.before.before.before.before.requires in
+    let e = c.in-Start.is in
+    let p = c.requires in
     let (count, fields) = c.start.ensures in (
       λ g eoi. rw (e, count, fields) (start_held g _ _ _ _ _ eoi _ (rw e at p.1.0)),
       (
@@ -124,23 +124,23 @@ returns-in-Start c =
 pub returns-in-Stop : goal.returns-in-Stop
 unfolding marks_put
 returns-in-Stop c =
-    let e = c.before.before.before.in-Stop.is in
-    let p = c.before.before.before.before.before.requires in
+    let e = c.in-Stop.is in
+    let p = c.requires in
     let put = c.put_flag.ensures in
     (λ g eoi. rw (e, put) (stop_held g _ _ _ _ _ eoi _ (rw e at p.1.0) p.0.flags_long), (flag_whole _ _ _ p.0 put, rw e))
 
 pub returns-in-Suspend : goal.returns-in-Suspend
 unfolding marks_put
 returns-in-Suspend c =
-    let e = c.before.before.before.in-Suspend.is in
-    let p = c.before.before.before.before.before.requires in
+    let e = c.in-Suspend.is in
+    let p = c.requires in
     let put = c.put_flag-in-Suspend.ensures in
     (λ g eoi. rw (e, put) (suspend_held g _ _ _ _ _ eoi _ (rw e at p.1.0) p.0.flags_long), (flag_whole _ _ _ p.0 put, rw e))
 
 pub returns-in-Resume : goal.returns-in-Resume
 unfolding marks_put
 returns-in-Resume c =
-    let e = c.before.before.before.in-Resume.is in
-    let p = c.before.before.before.before.before.requires in
+    let e = c.in-Resume.is in
+    let p = c.requires in
     let put = c.put_flag-in-Resume.ensures in
     (λ g eoi. rw (e, put) (resume_held g _ _ _ _ _ eoi _ (rw e at p.1.0) p.0.flags_long), (flag_whole _ _ _ p.0 put, rw e))

@@ -37,18 +37,18 @@ loop-at-init c = (refl, search rules)
 pub returns-then-starting_at-routine : goal.returns-then-starting_at-routine
 returns-then-starting_at-routine c =
     let l = c.before.before.before in
-    let found = eq-eqb _ _ (sym c.before.starting_at.ensures.0 ∙ c.if-starting_at-routine.true) in
-    let holds = any_holds (is_at _ _) l.before.args.count l.loop-at.at c.before.before.loop-at-test.true found in
-    rw (starting_by _ _ _ l.before.requires, holds)
+    let found = eq-eqb _ _ (sym c.starting_at.ensures.0 ∙ c.if-starting_at-routine.true) in
+    let holds = any_holds (is_at _ _) l.args.count l.loop-at.at c.loop-at-test.true found in
+    rw (starting_by _ _ _ l.requires, holds)
 
 pub loop-at-preserved : goal.loop-at-preserved
 loop-at-preserved c =
     let l = c.before.before.before in
-    let a = l.before.args in
-    let other = ne_eqb _ _ (λ e. c.if-starting_at-routine.false (c.before.starting_at.ensures.0 ∙ e)) in
+    let a = l.args in
+    let other = ne_eqb _ _ (λ e. c.if-starting_at-routine.false (c.starting_at.ensures.0 ∙ e)) in
     (any_next (is_at a.fields.now a.routine) l.loop-at.at l.loop-at.invariant.0 other, search rules)
 
 pub returns : goal.returns
 returns c =
     let l = c.before in
-    rw (starting_by _ _ _ l.before.requires) (sym (any_ends (is_at _ _) l.loop-at.invariant.0 l.loop-at.invariant.1 c.loop-at-test.false))
+    rw (starting_by _ _ _ l.requires) (sym (any_ends (is_at _ _) l.loop-at.invariant.0 l.loop-at.invariant.1 c.loop-at-test.false))

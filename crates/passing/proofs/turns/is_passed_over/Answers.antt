@@ -3,7 +3,7 @@ use borrow.Author.Rules.{rules}
 use Rattle.passing.proofs.turns.is_passed_over.Goals as goal
 
 pub returns-then-flag_at : goal.returns-then-flag_at
-returns-then-flag_at c = rw (← c.before.flag_at.ensures, c.if-flag_at.true)
+returns-then-flag_at c = rw (← c.flag_at.ensures, c.if-flag_at.true)
 
 pub returns : goal.returns
-returns c = rw (← c.before.before.flag_at.ensures, c.before.if-flag_at.false, ← c.field_at.ensures.0)
+returns c = rw (← c.flag_at.ensures, c.if-flag_at.false, ← c.field_at.ensures.0)

@@ -10,21 +10,30 @@ use Rattle.tables.specs.Tables.{state_of}
 use Rattle.ticking.specs.Acts.{act_at}
 use Rattle.passing.proofs.Runs.{Inside, goes_fits, effect_room, goes_on_lem, halts, run_over}
 use borrow.Author.Rules.{rules}
+use Rattle.passing.proofs.turns.run.Lts as lts
+use Rattle.passing.proofs.turns.run.Reads as reads
+use Rattle.passing.proofs.turns.run.Tie as tie
 use Rattle.passing.proofs.turns.run.Goals as goal
 
+abbrev At-loop-ticks : Type 0
+At-loop-ticks = lts.At-loop tie.the-claims reads.Pre reads.Post
+
+abbrev Start : Type 0
+Start = lts.Start tie.the-claims reads.Pre reads.Post
+
 -- where the function begins, seen from the loop's head, and the loop's head, seen from a tick
-abbrev start : goal.At-loop-ticks → goal.Start
+abbrev start : At-loop-ticks → Start
 start l = l.before.before.before.before.before.before.before.before
 
-abbrev head : goal.After-tick-act → goal.At-loop-ticks
+abbrev head : goal.After-tick-act → At-loop-ticks
 head t = t.before.before.before.before.before.before.before
 
 -- a step is allowed there
 some : (t : goal.After-tick-act) → 0 < (head t).loop-ticks.ticks
-some t = t.before.before.before.before.before.before.loop-ticks-test.true
+some t = t.loop-ticks-test.true
 
 -- the state that the tables hold there
-abbrev held : goal.At-loop-ticks → Game → State
+abbrev held : At-loop-ticks → Game → State
 held l g = state_of g l.loop-ticks.counters l.loop-ticks.flags l.loop-ticks.fields l.loop-ticks.given-1 l.loop-ticks.tally (start l).args.eoi
 
 -- what the step does is what the definition says
@@ -35,17 +44,17 @@ acts :
     ≡ t.tick-act.result
 acts t g =
     let l = head t in
-    let position = t.before.before.before.before.before.position_of-x.ensures in
+    let position = t.position_of-x.ensures in
     sym (t.tick-act.ensures g l.loop-ticks.tally refl ∙ ap (λ (x : Position). act_at (start l).args.steps.now x (held l g)) position)
 
 pub loop-ticks-init : goal.loop-ticks-init
 loop-ticks-init c =
-    let place = c.before.before.before.before.field_at-place.ensures.0 in
+    let place = c.field_at-place.ensures.0 in
     record {
-      whole = c.before.before.before.before.before.before.before.requires.0;
+      whole = c.requires.0;
       given_long = refl;
       marks_long = refl;
-      leads = λ g. rw (place, c.before.before.flag_at-begun.ensures, c.field_at-left.ensures.0);
+      leads = λ g. rw (place, c.flag_at-begun.ensures, c.field_at-left.ensures.0);
     }
 
 pub tick-act-requires : goal.tick-act-requires
@@ -64,7 +73,7 @@ apply-tally-requires c =
     let long = i.given_long in
     let p = (start (head t)).pre in
     let g = p.1.1.0 in
-    let act = c.before.before.before.before.before.before.in-Goes.is in
+    let act = c.in-Goes.is in
     let room = effect_room i (some t) _ _ (λ g. acts t g ∙ act) g p.1.1.1 in
     (rw long i.whole, (goes_fits p.1.0.1 _ _ _ _ (acts t g ∙ act), rw long room, p.1.0.0))
 
@@ -75,8 +84,8 @@ pub loop-ticks-preserved : goal.loop-ticks-preserved
 loop-ticks-preserved c =
     let t = c.before.before.before.before.before.before.before.before.before.before.before in
     let i = (head t).loop-ticks.invariant in
-    let act = c.before.before.before.before.before.before.before.before.before.in-Goes.is in
-    let apply = c.before.before.apply-tally in
+    let act = c.in-Goes.is in
+    let apply = c.apply-tally in
     goes_on_lem i (some t) _ _ (λ g. acts t g ∙ act) _ _ _ _ _ _ apply.ensures.0 apply.ensures.1.1
     (rw i.given_long at apply.ensures.1.0) (apply.auto.1.1.1.1.1.1.0 ∙ i.given_long)
     (apply.auto.1.1.1.1.1.1.1.0 ∙ i.marks_long)
@@ -91,22 +100,22 @@ pub returns-in-Halts : goal.returns-in-Halts
 returns-in-Halts c =
     let t = c.before.before.before.before in
     let i = (head t).loop-ticks.invariant in
-    let act = c.before.before.in-Halts.is in
+    let act = c.in-Halts.is in
     let h = c.halted.ensures in
     (λ g. rw (h.0, h.1, h.2) (halts i (some t) _ _ (λ g. acts t g ∙ act) g), (rw h.2 i.whole, i.given_long))
 
 pub shape_of-given : goal.shape_of-given
-shape_of-given c = c.before.before.before.loop-ticks.invariant.given_long
+shape_of-given c = c.loop-ticks.invariant.given_long
 
 pub shape_of-marks : goal.shape_of-marks
-shape_of-marks c = c.before.before.before.loop-ticks.invariant.marks_long
+shape_of-marks c = c.loop-ticks.invariant.marks_long
 
 pub returns : goal.returns
 returns c =
     let l = c.before.before.before in
     let i = l.loop-ticks.invariant in
     let h = c.halted-2.ensures in
-    let z : l.loop-ticks.ticks ≡ 0 = omega (arith, c.before.before.loop-ticks-test.false) in (
-      λ g. rw (h.0, h.1, h.2, c.before.position_of.ensures) (rw (z, run_over) at (i.leads g)),
+    let z : l.loop-ticks.ticks ≡ 0 = omega (arith, c.loop-ticks-test.false) in (
+      λ g. rw (h.0, h.1, h.2, c.position_of.ensures) (rw (z, run_over) at (i.leads g)),
       (rw h.2 i.whole, i.given_long),
     )

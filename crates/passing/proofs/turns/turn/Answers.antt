@@ -14,24 +14,36 @@ use Rattle.passing.specs.Turns.{is_passed_over, TurnFits, Playable, Run}
 use Rattle.passing.proofs.Held.{still_whole}
 use Rattle.passing.proofs.Left.{left_held}
 use Rattle.passing.proofs.Turning.{over_held, run_held, room_held, left_by, turn_over, turn_taken}
+use Rattle.passing.proofs.turns.turn.Lts as lts
+use Rattle.passing.proofs.turns.turn.Reads as reads
+use Rattle.passing.proofs.turns.turn.Tie as tie
 use Rattle.passing.proofs.turns.turn.Goals as goal
 
+abbrev After-end_with-arg-1 : Type 0
+After-end_with-arg-1 = lts.After-end_with-arg tie.the-claims reads.Pre reads.Post
+
+abbrev After-run-t : Type 0
+After-run-t = lts.After-run tie.the-claims reads.Pre reads.Post
+
+abbrev Start : Type 0
+Start = lts.Start tie.the-claims reads.Pre reads.Post
+
 -- where the function begins, seen from its call of run, and the call of run, seen from that of end_with
-abbrev start : goal.After-run-arg-5-1 → goal.Start
+abbrev start : goal.After-run-arg-5-1 → Start
 start c = c.before.before.before.before.before.before.before.before.before.before.before
 
-abbrev ran : goal.After-end_with-arg-1 → goal.After-run-t
+abbrev ran : After-end_with-arg-1 → After-run-t
 ran c = c.before.before.before.before.before.before.before.before.before.before.before.before.before
 
 -- the state that the tables hold at the start
-abbrev held : goal.Start → Game → State
+abbrev held : Start → Game → State
 held s g = let a = s.args in state_of g a.counters.now a.flags.now a.fields.now a.given-1.now a.before a.eoi
 
 -- the turn is taken
 taken : (c : goal.After-run-arg-5-1) (g : Game) → is_passed_over (held (start c) g) (start c).args.routine ≡ false
 taken c g =
     let test = c.before.before.before.before.before.before in
-    over_held g _ _ _ _ _ _ _ (start c).requires.1.0.below ∙ sym test.before.is_passed_over.ensures ∙ test.if-is_passed_over.false
+    over_held g _ _ _ _ _ _ _ (start c).requires.1.0.below ∙ sym test.is_passed_over.ensures ∙ test.if-is_passed_over.false
 
 -- so what it leaves has its place in the tables
 fits :
@@ -42,8 +54,8 @@ fits c = (start c).requires.1.1.1 (taken c (start c).requires.1.1.0)
 
 pub returns-then-is_passed_over : goal.returns-then-is_passed_over
 returns-then-is_passed_over c =
-    let p = c.before.before.before.before.before.requires in
-    let over = c.before.is_passed_over.ensures in
+    let p = c.requires in
+    let over = c.is_passed_over.ensures in
     (λ g. turn_over _ _ _ _ (over_held g _ _ _ _ _ _ _ p.1.0.below ∙ sym over ∙ c.if-is_passed_over.true), (p.0, refl))
 
 pub run-t-requires : goal.run-t-requires
@@ -51,7 +63,7 @@ run-t-requires c =
     let p = (start c).requires in
     let ready = p.1.0 in
     let g = p.1.1.0 in
-    let steps = c.before.before.before.before.before.steps_of-steps.ensures in (
+    let steps = c.steps_of-steps.ensures in (
       p.0,
       (
         (ready.below, subst Playable (sym steps) ready.playable),
@@ -61,13 +73,13 @@ run-t-requires c =
 
 -- its steps leave the routine where those of the definition do
 as_defined :
-    (c : goal.After-run-t) →
+    (c : After-run-t) →
     let s = start c.before in
     c.run-t.result.position ≡ (ticks_of s.args.book.now s.args.routine (held s s.pre.1.1.0)).position
 as_defined c =
     let p = (start c.before).requires in
     let g = p.1.1.0 in
-    let steps = c.before.before.before.before.before.before.steps_of-steps.ensures in
+    let steps = c.steps_of-steps.ensures in
     ap (λ (t : Run). t.position) (c.run-t.ensures.0 g ∙ run_held g _ _ _ _ _ _ _ _ _ _ steps p.1.0)
 
 pub put_field-requires : goal.put_field-requires
@@ -96,12 +108,12 @@ returns c =
     let ready = s.pre.1.0 in
     let whole = at.run-t.ensures.1.0 in
     let end = c.end_with-tally.ensures in
-    let flag = c.before.before.put_flag.ensures in
+    let flag = c.put_flag.ensures in
     let last = c.before.before.before.before in
-    let place = last.before.before.before.before.before.put_field.ensures in
-    let left = last.before.before.before.put_field-2.ensures in
-    let fields = rw (left, place, last.before.stage_after_lem.ensures.0) at last.put_field-3.ensures in
-    let steps = at.before.before.before.before.before.before.steps_of-steps.ensures in (
+    let place = last.put_field.ensures in
+    let left = last.put_field-2.ensures in
+    let fields = rw (left, place, last.stage_after.ensures.0) at last.put_field-3.ensures in
+    let steps = at.steps_of-steps.ensures in (
       λ g.
           let taking = at.run-t.ensures.0 g ∙ run_held g _ _ _ _ _ _ _ _ _ _ steps ready in
           rw (

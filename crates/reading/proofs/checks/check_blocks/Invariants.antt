@@ -16,7 +16,7 @@ use Rattle.verdicts.specs.declared.BookAnswer.TheVariants.{WrongNesting, Without
 use Rattle.blocks.specs.declared.Fault.TheVariants.{Unreadable, Misnested}
 use Rattle.blocks.specs.declared.Walk.{Walk}
 use Rattle.blocks.specs.declared.Walk.TheVariants as walk
-use Rattle.verdicts.specs.Verdicts.{accepted, refused, verdict_of, ◌orElse◌, first_refusal}
+use Rattle.verdicts.specs.Verdicts.{accepted, refused, verdict_of, ◌or_else◌, first_refusal}
 use Rattle.layout.specs.Layout.{routines_of}
 use Rattle.directory.specs.Directory.{first_step, step_count}
 use Rattle.book.specs.Book.{routine_walk, nesting_of, pausing_of, nesting_at, pausing_at, nesting_verdict, pausing_verdict}

@@ -16,7 +16,7 @@ use Rattle.blocks.specs.declared.Fault.{Fault}
 use Rattle.blocks.specs.declared.Fault.TheVariants.{Unreadable, Misnested}
 use Rattle.blocks.specs.declared.Walk.{Walk}
 use Rattle.blocks.specs.declared.Walk.TheVariants as walk
-use Rattle.verdicts.specs.Verdicts.{accepted, ◌orElse◌}
+use Rattle.verdicts.specs.Verdicts.{accepted, ◌or_else◌}
 use Rattle.layout.specs.Layout.{header_bytes, entry_bytes, routines_of, steps_from, layout_verdict, counts_of}
 use Rattle.directory.specs.Directory.{first_step, step_count, directory_verdict, routine_from, routine_part}
 use Rattle.blocks.specs.Blocks.{view_at, routine_of}
@@ -30,7 +30,16 @@ use Rattle.blocks.proofs.Sound.{misnested, unreadable_at}
 use Rattle.book.proofs.Laid.{laid_out}
 use Rattle.numbers.proofs.Parts.{rest_from}
 use Rattle.blocks.proofs.Views.{view_beyond, view_inside}
+use Rattle.reading.proofs.checks.check_routine.Lts as lts
+use Rattle.reading.proofs.checks.check_routine.Reads as reads
+use Rattle.reading.proofs.checks.check_routine.Tie as tie
 use Rattle.reading.proofs.checks.check_routine.Goals as goal
+
+abbrev After-read_routine-walk : Type 0
+After-read_routine-walk = lts.After-read_routine tie.the-claims reads.Pre reads.Post
+
+abbrev Start : Type 0
+Start = lts.Start tie.the-claims reads.Pre reads.Post
 
 abbrev place_of : Fault → ℕ
 place_of (Unreadable p) = p
@@ -64,14 +73,14 @@ ends s r l d h =
 from_is :
     (c : goal.After-steps_from) →
     let first = c.before.before in
-    let args = first.before.before.args in
+    let args = first.args in
     c.steps_from.result + step_bytes * first.entry-first.result ≡ routine_from args.book.now args.routine
-from_is c = rw (c.steps_from.ensures.0, c.before.before.entry-first.ensures.0)
+from_is c = rw (c.steps_from.ensures.0, c.entry-first.ensures.0)
 
 -- its steps lie in the part of the book that begins there
 steps_there :
     (c : goal.After-steps_from) →
-    let args = c.before.before.before.before.args in
+    let args = c.args in
     step_bytes * step_count args.book.now args.routine ≤ length (routine_part args.book.now args.routine)
 steps_there c =
     let start = c.before.before.before.before in
@@ -79,45 +88,45 @@ steps_there c =
 
 -- what the call of the reader found, said of the book
 read_in_book :
-    (c : goal.After-read_routine-walk) →
+    (c : After-read_routine-walk) →
     let start = c.before.before.before.before.before.before in
     c.read_routine-walk.result ≡ routine_walk start.args.book.now start.args.routine
 unfolding routine_part
 read_in_book c =
     let from = c.before.before in
     let count = from.before in
-    in-book _ _ count.before.before.before.requires.0 (rest_from _ (from_is from)) count.entry-count.ensures.0 (steps_there from)
+    in-book _ _ count.requires.0 (rest_from _ (from_is from)) count.entry-count.ensures.0 (steps_there from)
     c.read_routine-walk.ensures
 
 -- the verdict of the routine is that of what was found, which computes once the case is known
 told :
-    (c : goal.After-read_routine-walk) {w : Walk} →
+    (c : After-read_routine-walk) {w : Walk} →
     c.read_routine-walk.result ≡ w →
     let count = c.before.before.before in
-    let first = count.before.entry-first.result in
-    let args = count.before.before.before.args in
+    let first = count.entry-first.result in
+    let args = count.args in
     (nesting_of first w or_else pausing_of first count.entry-count.result w)
     ≡ (nesting_at args.book.now args.routine or_else pausing_at args.book.now args.routine)
 told c e =
     let count = c.before.before.before in
-    rw (← e, read_in_book c, count.before.entry-first.ensures.0, count.entry-count.ensures.0)
+    rw (← e, read_in_book c, count.entry-first.ensures.0, count.entry-count.ensures.0)
 
 -- a place of the routine, numbered from the book's first step, fits
 sum_fits :
-    (c : goal.After-read_routine-walk) {p : ℕ} →
+    (c : After-read_routine-walk) {p : ℕ} →
     let count = c.before.before.before in
-    p < count.entry-count.result → count.before.entry-first.result + p < half_limit + half_limit
+    p < count.entry-count.result → count.entry-first.result + p < half_limit + half_limit
 sum_fits c h =
     let count = c.before.before.before in
-    omega (arith, h, count.entry-count.ensures.1, count.before.entry-first.ensures.1)
+    omega (arith, h, count.entry-count.ensures.1, count.entry-first.ensures.1)
 
 fault_fits :
-    (c : goal.After-read_routine-walk) {f : Fault} →
-    c.read_routine-walk.result ≡ walk.Fault f → c.before.before.before.before.entry-first.result + place_of f < half_limit + half_limit
+    (c : After-read_routine-walk) {f : Fault} →
+    c.read_routine-walk.result ≡ walk.Fault f → c.entry-first.result + place_of f < half_limit + half_limit
 unfolding routine_walk
 fault_fits c {f} e =
     let below = fault_below _ _ _ f (sym (read_in_book c) ∙ e) in
-    sum_fits c (omega (arith, below, c.before.before.before.entry-count.ensures.0))
+    sum_fits c (omega (arith, below, c.entry-count.ensures.0))
 
 -- asked of the length behind the routine's first byte, and of that byte
 pub slice_bounds-read_routine-count : goal.slice_bounds-read_routine-count
@@ -128,17 +137,17 @@ slice_bounds-read_routine-count c =
 
 pub read_routine-walk-requires : goal.read_routine-walk-requires
 unfolding routine_part
-read_routine-walk-requires c = rw (rest_from _ (from_is c.before), c.before.before.entry-count.ensures.0) (steps_there c.before)
+read_routine-walk-requires c = rw (rest_from _ (from_is c.before), c.entry-count.ensures.0) (steps_there c.before)
 
 pub numbered-requires : goal.numbered-requires
 numbered-requires c =
     let found = c.before.before.before.before in
-    fault_fits found.before.before (found.in-Fault.is ∙ ap walk.Fault c.before.in-Unreadable.is)
+    fault_fits found.before.before (found.in-Fault.is ∙ ap walk.Fault c.in-Unreadable.is)
 
 pub numbered-requires-in-Misnested : goal.numbered-requires-in-Misnested
 numbered-requires-in-Misnested c =
     let found = c.before.before.before.before in
-    fault_fits found.before.before (found.in-Fault.is ∙ ap walk.Fault c.before.in-Misnested.is)
+    fault_fits found.before.before (found.in-Fault.is ∙ ap walk.Fault c.in-Misnested.is)
 
 pub numbered-requires-then-endless-count : goal.numbered-requires-then-endless-count
 numbered-requires-then-endless-count c = sum_fits c.before.before.before.before c.if-endless-count.true
@@ -146,17 +155,17 @@ numbered-requires-then-endless-count c = sum_fits c.before.before.before.before 
 pub returns-in-Unreadable : goal.returns-in-Unreadable
 returns-in-Unreadable c =
     let found = c.before.before.before.before.before in
-    rw c.numbered.ensures (told found.before.before (found.in-Fault.is ∙ ap walk.Fault c.before.before.in-Unreadable.is))
+    rw c.numbered.ensures (told found.before.before (found.in-Fault.is ∙ ap walk.Fault c.in-Unreadable.is))
 
 pub returns-in-Misnested : goal.returns-in-Misnested
 returns-in-Misnested c =
     let found = c.before.before.before.before.before in
-    rw c.numbered-in-Misnested.ensures (told found.before.before (found.in-Fault.is ∙ ap walk.Fault c.before.before.in-Misnested.is))
+    rw c.numbered-in-Misnested.ensures (told found.before.before (found.in-Fault.is ∙ ap walk.Fault c.in-Misnested.is))
 
 pub returns-then-endless-count : goal.returns-then-endless-count
 returns-then-endless-count c =
     let found = c.before.before.before in
-    rw c.numbered-then-endless-count.ensures (rw (lt-ltb _ _ c.before.if-endless-count.true) at (told found.before.before found.in-Past.is))
+    rw c.numbered-then-endless-count.ensures (rw (lt-ltb _ _ c.if-endless-count.true) at (told found.before.before found.in-Past.is))
 
 pub returns-else-endless-count : goal.returns-else-endless-count
 returns-else-endless-count c =
@@ -165,7 +174,7 @@ returns-else-endless-count c =
 
 -- the routine's entry lies in the book
 entry_there :
-    (c : goal.Start) → header_bytes + 2 + entry_bytes * c.args.routine + 1 < length c.args.book.now
+    (c : Start) → header_bytes + 2 + entry_bytes * c.args.routine + 1 < length c.args.book.now
 entry_there c =
     let laid = laid_out _ (ap (λ v. v.number) c.requires.1.0) in
     omega (arith, laid.offsets.size, c.requires.1.1.1)

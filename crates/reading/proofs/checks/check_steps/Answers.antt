@@ -52,7 +52,7 @@ read_as s part i e f = sym (step_within_lem (counts_of s) part i) ∙ sym (rw e 
 -- asked of the length behind the steps' first byte, and of that byte
 pub slice_bounds-part-count : goal.slice_bounds-part-count
 slice_bounds-part-count c =
-    let laid = laid_out _ (ap (λ v. v.number) c.before.before.before.before.requires) in
+    let laid = laid_out _ (ap (λ v. v.number) c.requires) in
     omega (arith, laid.offsets.size, c.steps_from-from.ensures.0)
 
 pub loop-at-init : goal.loop-at-init
@@ -63,24 +63,24 @@ returns-in_default c =
     let call = c.before.before in
     let l = call.before.before.before in
     let h = l.before.before in
-    stops _ _ _ _ l.loop-at.invariant.0 _ refl h.before.steps-all.ensures.0 (rest_from _ h.steps_from-from.ensures.0)
-    call.before.before.loop-at-test.true
-    (read_as h.before.before.before.before.args.book.now _ _ h.before.before.limits_in-limits.ensures call.step_within_lem.ensures
-    ∙ c.enum-told2.given.1)
+    stops _ _ _ _ l.loop-at.invariant.0 _ refl h.steps-all.ensures.0 (rest_from _ h.steps_from-from.ensures.0)
+    call.loop-at-test.true
+    (read_as h.args.book.now _ _ h.limits_in-limits.ensures call.step_within-decoded.ensures
+    ∙ c.in_default.is)
 
 pub loop-at-preserved : goal.loop-at-preserved
 loop-at-preserved c =
     let call = c.before.before in
     let l = call.before.before.before in
     let limits = l.before.before.before.before in
-    let read = read_as limits.before.before.args.book.now _ _ limits.limits_in-limits.ensures call.step_within_lem.ensures in
-    (goes _ _ _ _ l.loop-at.invariant.0 call.before.before.loop-at-test.true (read ∙ c.in-Kind.is), search rules)
+    let read = read_as limits.args.book.now _ _ limits.limits_in-limits.ensures call.step_within-decoded.ensures in
+    (goes _ _ _ _ l.loop-at.invariant.0 call.loop-at-test.true (read ∙ c.in-Kind.is), search rules)
 
 pub returns : goal.returns
 returns c =
     let l = c.before in
     let h = l.before.before in
-    ends _ _ _ _ l.loop-at.invariant.0 _ refl h.before.steps-all.ensures.0 (rest_from _ h.steps_from-from.ensures.0) c.loop-at-test.false
+    ends _ _ _ _ l.loop-at.invariant.0 _ refl h.steps-all.ensures.0 (rest_from _ h.steps_from-from.ensures.0) c.loop-at-test.false
 
 pub slice_bounds-part-start : goal.slice_bounds-part-start
 slice_bounds-part-start c = slice_bounds-part-count c

@@ -22,13 +22,13 @@ unfolding from_bits
 returns c = omega arith
 
 pub with_bit-suspending-requires : goal.with_bit-suspending-requires
-with_bit-suspending-requires c = omega (arith, small c.before.args.x)
+with_bit-suspending-requires c = omega (arith, small c.args.x)
 
 pub with_bit-stopping-requires : goal.with_bit-stopping-requires
-with_bit-stopping-requires c = omega (arith, small c.before.before.args.x)
+with_bit-stopping-requires c = omega (arith, small c.args.x)
 
 pub with_bit-begun-requires : goal.with_bit-begun-requires
-with_bit-begun-requires c = omega (arith, small c.before.before.before.args.x)
+with_bit-begun-requires c = omega (arith, small c.args.x)
 
 pub with_bit-requires : goal.with_bit-requires
-with_bit-requires c = omega (arith, small c.before.before.before.before.args.x)
+with_bit-requires c = omega (arith, small c.args.x)

@@ -6,4 +6,4 @@ use lib.ListN.{get_or-eq_default}
 use Rattle.storing.proofs.bits.is_broadcast.Goals as goal
 
 pub returns-else-at-lt-MOST_SIGNALS : goal.returns-else-at-lt-MOST_SIGNALS
-returns-else-at-lt-MOST_SIGNALS c = sym (get_or-eq_default c.before.args.flags.now _ (omega (arith, c.before.requires, c.if-at-lt-MOST_SIGNALS.false)))
+returns-else-at-lt-MOST_SIGNALS c = sym (get_or-eq_default c.args.flags.now _ (omega (arith, c.requires, c.if-at-lt-MOST_SIGNALS.false)))

@@ -12,24 +12,24 @@ loop-left-init c = (upper_none _ _, search rules)
 
 pub with_bit-value-requires : goal.with_bit-value-requires
 with_bit-value-requires c =
-    let l = c.before.before.loop-left in
-    let a = c.before.before.before.args in
-    rw l.invariant.0 (upper_room a.flags.now a.byte l.left c.before.loop-left-test.true)
+    let l = c.loop-left in
+    let a = c.args in
+    rw l.invariant.0 (upper_room a.flags.now a.byte l.left c.loop-left-test.true)
 
 pub loop-left-preserved : goal.loop-left-preserved
 loop-left-preserved c =
-    let l = c.before.before.before.loop-left in
-    let a = c.before.before.before.before.args in
-    let some = c.before.before.loop-left-test.true in
+    let l = c.loop-left in
+    let a = c.args in
+    let some = c.loop-left-test.true in
     let next = l.left - 1 in
     let one : l.left ≡ next + 1 = omega (arith, some) in
     let value = rw one at l.invariant.0 in
     let more = upper_more a.flags.now a.byte {left = next} (omega (arith, some, l.invariant.1)) in
-    (c.with_bit-value.ensures ∙ rw (c.before.is_broadcast.ensures, value) more, omega (arith, l.invariant.1))
+    (c.with_bit-value.ensures ∙ rw (c.is_broadcast.ensures, value) more, omega (arith, l.invariant.1))
 
 pub returns : goal.returns
 returns c =
-    let l = c.before.loop-left in
-    let a = c.before.before.args in
+    let l = c.loop-left in
+    let a = c.args in
     let none : l.left ≡ 0 = omega (arith, c.loop-left-test.false) in
     (rw none at l.invariant.0) ∙ upper_all a.flags.now a.byte

@@ -24,18 +24,18 @@ from_zero (negsuc n) e = absurd (subst T e tt)
 
 -- below 0
 up :
-    (c : goal.Then-v-lt0) → let v = c.before.args.v in (negsuc 0 -ℤ v ≡ pos (mag v)) × (complement v ≡ word_limit - (mag v + 1))
-up c = below_zero c.before.args.v (rw (to_z-of_z c.before.ranges.v) at c.if-v-lt0.true)
+    (c : goal.Then-v-lt0) → let v = c.args.v in (negsuc 0 -ℤ v ≡ pos (mag v)) × (complement v ≡ word_limit - (mag v + 1))
+up c = below_zero c.args.v (rw (to_z-of_z c.ranges.v) at c.if-v-lt0.true)
 
 pub overflow_sub-v : goal.overflow_sub-v
-overflow_sub-v c = rw (to_z-of_z c.before.ranges.v, (up c).0) (record { sfits = c.before.ranges.v.sfits })
+overflow_sub-v c = rw (to_z-of_z c.ranges.v, (up c).0) (record { sfits = c.ranges.v.sfits })
 
-counted : (c : goal.After-count) → c.count.result ≡ mag c.before.before.args.v
+counted : (c : goal.After-count) → c.count.result ≡ mag c.args.v
 counted c =
-    rw (to_z-of_z (overflow_sub-v c.before), to_z-of_z c.before.before.ranges.v, (up c.before).0) at c.count.ensures
+    rw (to_z-of_z (overflow_sub-v c.before), to_z-of_z c.ranges.v, (up c.before).0) at c.count.ensures
 
 small : (c : goal.After-count) → c.count.result < 2 ^ 31
-small c = rw (counted c) c.before.before.ranges.v.sfits
+small c = rw (counted c) c.ranges.v.sfits
 
 pub overflow_cast-result : goal.overflow_cast-result
 overflow_cast-result c = record { fits = omega (arith, small c) }
@@ -47,14 +47,14 @@ pub returns-then-v-lt0 : goal.returns-then-v-lt0
 returns-then-v-lt0 c = omega (arith, counted c, (up c.before).1)
 
 -- from 0 on
-level : (c : goal.Else-v-lt0) → let v = c.before.args.v in (count_of v ≡ mag v) × (complement v ≡ mag v)
-level c = from_zero c.before.args.v (rw (to_z-of_z c.before.ranges.v) at c.if-v-lt0.false)
+level : (c : goal.Else-v-lt0) → let v = c.args.v in (count_of v ≡ mag v) × (complement v ≡ mag v)
+level c = from_zero c.args.v (rw (to_z-of_z c.ranges.v) at c.if-v-lt0.false)
 
-counted_2 : (c : goal.After-count-else-v-lt0) → c.count-else-v-lt0.result ≡ mag c.before.before.args.v
-counted_2 c = rw (to_z-of_z c.before.before.ranges.v, (level c.before).0) at c.count-else-v-lt0.ensures
+counted_2 : (c : goal.After-count-else-v-lt0) → c.count-else-v-lt0.result ≡ mag c.args.v
+counted_2 c = rw (to_z-of_z c.ranges.v, (level c.before).0) at c.count-else-v-lt0.ensures
 
 pub overflow_cast-result-else-v-lt0 : goal.overflow_cast-result-else-v-lt0
-overflow_cast-result-else-v-lt0 c = record { fits = rw (counted_2 c) (omega (arith, c.before.before.ranges.v.sfits)) }
+overflow_cast-result-else-v-lt0 c = record { fits = rw (counted_2 c) (omega (arith, c.ranges.v.sfits)) }
 
 pub returns-else-v-lt0 : goal.returns-else-v-lt0
 returns-else-v-lt0 c = rw (level c.before).1 (counted_2 c)

@@ -3,4 +3,4 @@ use borrow.Author.Rules.{rules}
 use Rattle.storing.proofs.parts.fields_of.Goals as goal
 
 pub returns : goal.returns
-returns c = rw (c.flags_of.ensures, c.before.word_bytes_lem.ensures)
+returns c = rw (c.flags_of.ensures, c.word_bytes-left.ensures)

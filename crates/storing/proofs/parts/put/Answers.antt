@@ -18,14 +18,14 @@ loop-done-init c = (rw (add-zero c.args.at), search rules, refl)
 
 pub loop-done-preserved : goal.loop-done-preserved
 loop-done-preserved c =
-    let l = c.before.before.loop-done in
-    let a = c.before.before.before.args in
+    let l = c.loop-done in
+    let a = c.args in
     let bytes = a.bytes.now in
-    let more = c.before.loop-done-test.true in
+    let more = c.loop-done-test.true in
     let byte = get_or bytes l.done 0 in
     let further : a.at + (l.done + 1) ≡ (a.at + l.done) + 1 = omega arith in
     let here : drop l.done bytes ≡ byte ∷ drop (l.done + 1) bytes = rw add-one (drop-cons bytes l.done 0 more) in
-    let room : a.at + l.done < length l.out = omega (arith, more, l.invariant.2, c.before.before.before.requires) in (
+    let room : a.at + l.done < length l.out = omega (arith, more, l.invariant.2, c.requires) in (
       rw further (part_one byte (a.at + l.done) (drop (l.done + 1) bytes) l.out room ∙ (rw here at l.invariant.0)),
       omega (arith, more),
       length-set l.out (a.at + l.done) byte ∙ l.invariant.2,
@@ -33,7 +33,7 @@ loop-done-preserved c =
 
 pub returns : goal.returns
 returns c =
-    let l = c.before.loop-done in
+    let l = c.loop-done in
     let s = c.before.before in
     let none : drop l.done s.args.bytes.now ≡ [] = drop_of_length-le _ c.loop-done-test.false in
     record {

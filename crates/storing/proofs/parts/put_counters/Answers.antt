@@ -24,21 +24,21 @@ pub put-end-requires : goal.put-end-requires
 put-end-requires c =
     let w = c.before.before in
     let i = w.before.before.before in
-    let l = i.before.loop-done in
+    let l = i.loop-done in
     let put = l.invariant.0 in
     let place = joined_place _ l.done put 4 (λ k. refl) in
-    omega (arith, place, put.same_length, ap length w.word_bytes_lem.ensures, i.loop-done-test.true, i.before.before.before.requires.1)
+    omega (arith, place, put.same_length, ap length w.word_bytes-bytes.ensures, i.loop-done-test.true, i.requires.1)
 
 pub loop-done-preserved : goal.loop-done-preserved
 loop-done-preserved c =
     let w = c.before.before.before.before.before in
     let i = w.before.before.before in
-    let l = i.before.loop-done in
-    let values = i.before.before.before.args.values.now in
+    let l = i.loop-done in
+    let values = i.args.values.now in
     let value : SFits w32 (get_or values l.done (pos 0)) = search rules in
-    let bytes = w.word_bytes_lem.ensures ∙ ap word_bytes (rw (to_z-of_z value) at w.before.complement_of.ensures) in
-    let put = rw bytes at c.before.before.put-end.ensures in
+    let bytes = w.word_bytes-bytes.ensures ∙ ap word_bytes (rw (to_z-of_z value) at w.complement_of.ensures) in
+    let put = rw bytes at c.put-end.ensures in
     (joined_next (counter_bytes_of values) l.done l.invariant.0 put, omega (arith, i.loop-done-test.true))
 
 pub returns : goal.returns
-returns c = let l = c.before.loop-done in joined_ends _ l.done l.invariant.0 l.invariant.1 c.loop-done-test.false
+returns c = let l = c.loop-done in joined_ends _ l.done l.invariant.0 l.invariant.1 c.loop-done-test.false

@@ -16,6 +16,6 @@ returns c =
     let one = two.before.before.before.before in
     let to-two = then one.put_half-end.ensures two.put_half-end-2.ensures in
     let to-four = then (then to-two three.put_half-end-3.ensures) four.put_half-end-4.ensures in
-    let counters = rw six.before.counters_from.ensures at six.put_half-end-6.ensures in
-    let lists = rw seven.before.lists_from.ensures at seven.put_half.ensures in
+    let counters = rw six.counters_from.ensures at six.put_half-end-6.ensures in
+    let lists = rw seven.lists_from.ensures at seven.put_half.ensures in
     then (then (then to-four five.put_half-end-5.ensures) counters) lists

@@ -9,4 +9,4 @@ unfolding record_of
 returns c =
     let p = c.before.before in
     let f = p.before.before.before.before in
-    rw (sub-zero f.before.before.args.form.recordsize, f.fields_of-fields.ensures) at p.put.ensures
+    rw (sub-zero f.args.form.recordsize, f.fields_of-fields.ensures) at p.put.ensures

@@ -18,19 +18,19 @@ loop-done-init c = let s = c.before in (joined_starts _ s.args.at s.args.out-1.n
 pub put-end-requires : goal.put-end-requires
 put-end-requires c =
     let i = c.before.before.before in
-    let l = i.before.loop-done in
+    let l = i.loop-done in
     let put = l.invariant.0 in
     let place = joined_place _ l.done put 1 (λ k. refl) in
-    omega (arith, place, put.same_length, i.loop-done-test.true, i.before.before.before.requires.1.1)
+    omega (arith, place, put.same_length, i.loop-done-test.true, i.requires.1.1)
 
 pub loop-done-preserved : goal.loop-done-preserved
 loop-done-preserved c =
     let b = c.before.before.before.before.before in
     let i = b.before in
-    let l = i.before.loop-done in
-    let flags = i.before.before.before.args.flags.now in
-    let put = rw b.set_byte.ensures at c.before.before.put-end.ensures in
+    let l = i.loop-done in
+    let flags = i.args.flags.now in
+    let put = rw b.set_byte.ensures at c.put-end.ensures in
     (joined_next (set_bytes_of flags) l.done l.invariant.0 put, omega (arith, i.loop-done-test.true))
 
 pub returns : goal.returns
-returns c = let l = c.before.loop-done in joined_ends _ l.done l.invariant.0 l.invariant.1 c.loop-done-test.false
+returns c = let l = c.loop-done in joined_ends _ l.done l.invariant.0 l.invariant.1 c.loop-done-test.false

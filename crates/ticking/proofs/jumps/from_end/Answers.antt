@@ -6,8 +6,8 @@ use Rattle.ticking.proofs.jumps.from_end.Goals as goal
 
 pub returns-then-steps-opening-eq-OP_WHILE : goal.returns-then-steps-opening-eq-OP_WHILE
 unfolding from_end
-returns-then-steps-opening-eq-OP_WHILE c = rw (← c.before.before.opening_before-opening.ensures.0, eq-eqb _ _ c.if-steps-opening-eq-OP_WHILE.true)
+returns-then-steps-opening-eq-OP_WHILE c = rw (← c.opening_before-opening.ensures.0, eq-eqb _ _ c.if-steps-opening-eq-OP_WHILE.true)
 
 pub returns-else-steps-opening-eq-OP_WHILE : goal.returns-else-steps-opening-eq-OP_WHILE
 unfolding from_end
-returns-else-steps-opening-eq-OP_WHILE c = rw (← c.before.before.opening_before-opening.ensures.0, ne_eqb _ _ c.if-steps-opening-eq-OP_WHILE.false)
+returns-else-steps-opening-eq-OP_WHILE c = rw (← c.opening_before-opening.ensures.0, ne_eqb _ _ c.if-steps-opening-eq-OP_WHILE.false)

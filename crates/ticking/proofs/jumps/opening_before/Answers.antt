@@ -16,27 +16,27 @@ loop-at-init c = (refl, search rules)
 pub loop-at-preserved-in-20 : goal.loop-at-preserved-in-20
 loop-at-preserved-in-20 c =
     let l = c.before.before.before in
-    let h = sym (opening_on _ l.loop-at.depth l.loop-at.at c.before.before.loop-at-test.true) ∙ l.loop-at.invariant.0 in
+    let h = sym (opening_on _ l.loop-at.depth l.loop-at.at c.loop-at-test.true) ∙ l.loop-at.invariant.0 in
     (rw c.in-20.is at h, omega arith)
 
 pub returns-then-depth-eq0 : goal.returns-then-depth-eq0
 returns-then-depth-eq0 c =
     let l = c.before.before.before.before in
-    let h = sym (opening_on _ l.loop-at.depth l.loop-at.at c.before.before.before.loop-at-test.true) ∙ l.loop-at.invariant.0 in
+    let h = sym (opening_on _ l.loop-at.depth l.loop-at.at c.loop-at-test.true) ∙ l.loop-at.invariant.0 in
     let z = eq-eqb _ _ c.if-depth-eq0.true in
-    (elim c.before.in-17.is [ inl k ↦ rw (k, z) at h | inr k ↦ rw (k, z) at h ], omega arith)
+    (elim c.in-17.is [ inl k ↦ rw (k, z) at h | inr k ↦ rw (k, z) at h ], omega arith)
 
 pub loop-at-preserved-in-17 : goal.loop-at-preserved-in-17
 loop-at-preserved-in-17 c =
     let l = c.before.before.before.before in
-    let h = sym (opening_on _ l.loop-at.depth l.loop-at.at c.before.before.before.loop-at-test.true) ∙ l.loop-at.invariant.0 in
+    let h = sym (opening_on _ l.loop-at.depth l.loop-at.at c.loop-at-test.true) ∙ l.loop-at.invariant.0 in
     let z = ne_eqb _ _ c.if-depth-eq0.false in
-    (elim c.before.in-17.is [ inl k ↦ rw (k, z) at h | inr k ↦ rw (k, z) at h ], omega arith)
+    (elim c.in-17.is [ inl k ↦ rw (k, z) at h | inr k ↦ rw (k, z) at h ], omega arith)
 
 pub loop-at-preserved : goal.loop-at-preserved
 loop-at-preserved c =
     let l = c.before.before.before in
-    let h = sym (opening_on _ l.loop-at.depth l.loop-at.at c.before.before.loop-at-test.true) ∙ l.loop-at.invariant.0 in
+    let h = sym (opening_on _ l.loop-at.depth l.loop-at.at c.loop-at-test.true) ∙ l.loop-at.invariant.0 in
     let others = c.match.rest in
     (simp (ne_eqb _ _ others.0.1, ne_eqb _ _ (λ e. others.1 (inl e)), ne_eqb _ _ (λ e. others.1 (inr e))) at h, omega arith)
 

@@ -9,7 +9,7 @@ use Rattle.ticking.proofs.jumps.past_partner.Goals as goal
 
 pub overflow_add-result : goal.overflow_add-result
 overflow_add-result c =
-    let a = c.before.before.args in
+    let a = c.args in
     let steps = a.steps.now in
     omega (arith, partner_near steps (steps_in steps - (a.place + 1)) 0 (a.place + 1), c.partner.ensures)
 

@@ -19,22 +19,22 @@ loop-at-init c = (sought_all _ _ _ _ c.requires.2, search rules)
 pub returns-then-left-le1 : goal.returns-then-left-le1
 returns-then-left-le1 c =
     let l = c.before.before.before.before.before in
-    let a = l.before.args in
+    let a = l.args in
     let f : SFits w32 (get_or a.given.now (2 * l.loop-at.at) (pos 0)) = search rules in
-    let test = rw (to_z-of_z f, c.before.if-is_signal.true) at c.before.before.is_signal.ensures in
-    let below = c.before.before.before.before.loop-at-test.true in
-    let it = found _ _ _ _ l.before.requires.0 _ _ l.loop-at.invariant.0 below (sym test) c.if-left-le1.true in
+    let test = rw (to_z-of_z f, c.if-is_signal.true) at c.is_signal.ensures in
+    let below = c.loop-at-test.true in
+    let it = found _ _ _ _ l.requires.0 _ _ l.loop-at.invariant.0 below (sym test) c.if-left-le1.true in
     (rw (lt-ltb _ _ below) (sym it.0), λ h. it.1)
 
 pub loop-at-preserved : goal.loop-at-preserved
 loop-at-preserved c =
     let l = c.before.before.before.before in
-    let a = l.before.args in
+    let a = l.args in
     let f : SFits w32 (get_or a.given.now (2 * l.loop-at.at) (pos 0)) = search rules in
-    let test = rw (to_z-of_z f) at c.before.is_signal.ensures in
-    let below = c.before.before.before.loop-at-test.true in
+    let test = rw (to_z-of_z f) at c.is_signal.ensures in
+    let below = c.loop-at-test.true in
     let inv = l.loop-at.invariant.0 in
-    let fits = l.before.requires.0 in
+    let fits = l.requires.0 in
     ⊎_elim
     (λ w. (rw w.2 (counts _ _ _ _ fits _ _ inv below (sym (rw w.0.taken at test)) w.1.left), search rules))
     (λ w. (rw w.1 (passes _ _ _ _ fits _ _ inv below (sym (rw w.0.left at test))), search rules))
@@ -43,6 +43,6 @@ loop-at-preserved c =
 pub returns : goal.returns
 returns c =
     let l = c.before in
-    let all = l.before.args.count in
-    let none = lost _ _ _ _ l.before.requires.0 _ _ l.loop-at.invariant.0 c.loop-at-test.false in
+    let all = l.args.count in
+    let none = lost _ _ _ _ l.requires.0 _ _ l.loop-at.invariant.0 c.loop-at-test.false in
     (rw none (le-ltb all all (omega arith)), λ h. absurd (omega (arith, h)))

@@ -11,12 +11,12 @@ use Rattle.ticking.proofs.tries.reads.Goals as goal
 
 pub returns-then-at-count : goal.returns-then-at-count
 returns-then-at-count c =
-    let f = c.before.before.before.find-at in
-    let below = c.before.before.if-at-count.true in
-    let fits : SFits w32 (get_or c.before.before.before.before.args.given.now (2 * f.result + 1) (pos 0)) = search rules in
+    let f = c.find-at in
+    let below = c.if-at-count.true in
+    let fits : SFits w32 (get_or c.args.given.now (2 * f.result + 1) (pos 0)) = search rules in
     rw (← f.ensures.0, lt-ltb _ _ below, ← (f.ensures.1 below), to_z-of_z fits)
 
 pub returns : goal.returns
 returns c =
     let left = c.before.before.before in
-    rw (← left.before.find-at.ensures.0, le-ltb _ _ left.if-at-count.false, ← c.before.fresh.ensures) c.when_missing.ensures
+    rw (← left.find-at.ensures.0, le-ltb _ _ left.if-at-count.false, ← c.fresh.ensures) c.when_missing.ensures

@@ -3,7 +3,7 @@ use borrow.Author.Rules.{rules}
 use Rattle.ticking.proofs.tries.tries.Goals as goal
 
 pub returns-then-there : goal.returns-then-there
-returns-then-there c = rw c.before.if-there.true
+returns-then-there c = rw c.if-there.true
 
 pub returns-else-there : goal.returns-else-there
-returns-else-there c = rw c.before.if-there.false c.when_missing.ensures
+returns-else-there c = rw c.if-there.false c.when_missing.ensures

@@ -4,7 +4,7 @@ use borrow.Author.Tests.{eq-eqb, ne_eqb}
 use Rattle.ticking.proofs.tries.waits_for.Goals as goal
 
 pub returns-then-k-eq0 : goal.returns-then-k-eq0
-returns-then-k-eq0 c = rw (eq-eqb _ _ c.before.if-k-eq0.true)
+returns-then-k-eq0 c = rw (eq-eqb _ _ c.if-k-eq0.true)
 
 pub returns-else-k-eq0 : goal.returns-else-k-eq0
-returns-else-k-eq0 c = rw (ne_eqb _ _ c.before.before.if-k-eq0.false, ← c.before.begun_at.ensures) c.tries.ensures
+returns-else-k-eq0 c = rw (ne_eqb _ _ c.if-k-eq0.false, ← c.begun_at.ensures) c.tries.ensures

@@ -35,8 +35,8 @@ abbrev μ-loop : block-lts.decreases-loop
 module _ (t : ℕ) where
   abbrev block_callees : block-lts.Claims
   block_callees = (
-    step_within_lem.Asked,
-    step_within_lem.Learnt,
+    step_within.Asked,
+    step_within.Learnt,
     form_of.Asked,
     form_of.Learnt,
     step_below t,
@@ -53,7 +53,7 @@ module _ (t : ℕ) where
       view_by args.limits.now args.steps.now here.loop.at ≡ stands c.form_of.result
   there c =
       let call = c.before.before.before.before in
-      stands_there _ _ _ call.before.loop-test.true (sym call.step_within_lem.ensures ∙ c.before.before.decoded.given.1)
+      stands_there _ _ _ call.before.loop-test.true (sym call.step_within.ensures ∙ c.before.before.decoded.given.1)
       ∙ ap stands (sym c.form_of.ensures)
 
   opens :
@@ -67,7 +67,7 @@ module _ (t : ℕ) where
   block_returns c =
       let call = c.before.before in
       let l = call.before.before in
-      let refused = sym call.step_within_lem.ensures ∙ c.enum_told.given.1 in
+      let refused = sym call.step_within.ensures ∙ c.enum_told.given.1 in
       let wrong = left_unreadable _ _ _ _ l.loop.pauses l.loop.endless call.before.loop-test.true refused in
       (sym wrong ∙ l.loop.invariant.0, tt)
 
