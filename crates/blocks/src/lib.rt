@@ -1,3 +1,4 @@
+#![tactic(auto)]
 // Blocks: how they nest and whether they pause. What reading them finds.
 
 // What stops a reading, with its place in the routine.

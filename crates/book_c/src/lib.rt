@@ -1,3 +1,4 @@
+#![tactic(auto)]
 // The calls with which a C program checks a book, and names the routines that nobody starts.
 ghost use Rattle.std.specs.Prelude.{◌≡◌};
 ghost use Rattle.book.specs.Book.{book_verdict};

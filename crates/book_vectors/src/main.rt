@@ -1,3 +1,4 @@
+#![tactic(auto)]
 // Reads the books of the input, a line each: the number and the place expected, and the bytes in hexadecimal (`-` for none).
 // Prints what reading each book answers, and whether that is what its line expects.
 use digits::{Number, decimal};

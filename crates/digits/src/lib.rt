@@ -1,3 +1,4 @@
+#![tactic(auto)]
 // The digits of a word, and the numbers that words of them stand for.
 ghost use Rattle.std.specs.Prelude.{◌≡◌, ◌≤◌};
 ghost use Rattle.digits.specs.Digits.{digit_of, decimal_of, signed_of, pair_in};

@@ -1,3 +1,4 @@
+#![tactic(auto)]
 // The directory of a book, refusal 4, and the steps of a routine. Document 01, "The book".
 ghost use Rattle.std.specs.Prelude.{◌≡◌, ◌+◌, ◌<◌};
 ghost use Rattle.numbers.specs.Numbers.{half_limit};

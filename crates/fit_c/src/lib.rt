@@ -1,3 +1,4 @@
+#![tactic(auto)]
 // The call with which the benches time whether a game fits.
 ghost use Rattle.std.specs.Prelude.{◌≡◌};
 ghost use Rattle.fitting.specs.Fitting.{fits_book};

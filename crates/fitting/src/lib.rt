@@ -1,3 +1,4 @@
+#![tactic(auto)]
 // Which games fit a book: refusal 9. Document 01, "The game".
 mod arrays;
 mod slots;

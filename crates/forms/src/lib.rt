@@ -1,3 +1,4 @@
+#![tactic(auto)]
 // What a step is to the blocks around it, and the counts of the timed kinds.
 ghost use Rattle.std.specs.Prelude.{◌≡◌};
 ghost use Rattle.forms.specs.Forms.{form_of};

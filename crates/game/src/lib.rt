@@ -1,3 +1,4 @@
+#![tactic(auto)]
 // Games: what is kept between rounds. Document 01, "The game".
 ghost use Rattle.std.specs.Prelude.{◌≡◌};
 ghost use Rattle.game.specs.Game.{blank, blank_game, with_stop, with_suspend, with_resume, with_start};

@@ -1,3 +1,4 @@
+#![tactic(auto)]
 // Runs the script of the input, a command a line, on a book and a game, and prints the answers.
 // A line that is no command is told, and the script goes on. The input is read in pieces, so a script may be far longer than one.
 mod buffers;

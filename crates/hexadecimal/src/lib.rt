@@ -1,3 +1,4 @@
+#![tactic(auto)]
 // The bytes that words of hexadecimal digits stand for.
 ghost use Rattle.std.specs.Prelude.{◌≡◌, ◌/◌, ◌≤◌, length};
 ghost use Rattle.hexadecimal.specs.Hex.{longest, is_hex, written_from, bytes_in, written_in};

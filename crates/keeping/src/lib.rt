@@ -1,3 +1,4 @@
+#![tactic(auto)]
 // A game that a program keeps as bytes: its stored form at the front of a buffer that is lent with the stored game's length. What is told
 // of it, set-up and orders. Document 02, Paper 2, gives the form.
 ghost use Rattle.std.specs.Prelude.{◌≡◌, true};

@@ -1,3 +1,4 @@
+#![tactic(auto)]
 // A round of a game that a program keeps as bytes.
 ghost use Rattle.std.specs.Prelude.{ℕ, ◌≤◌, ◌≡◌, List, leb, ℤ, length};
 ghost use Rattle.book.specs.Accepted.{Accepted};

@@ -1,3 +1,4 @@
+#![tactic(auto)]
 // A step's eight bytes, taken apart into one of the 21 kinds, or turned down.
 ghost use Rattle.std.specs.Prelude.{◌≡◌, ◌<◌};
 ghost use Rattle.kinds.specs.Steps.{kind_of, steps_in, fields_at, kind_at};

@@ -1,3 +1,4 @@
+#![tactic(auto)]
 // The header of a book and where its parts lie: refusals 1 to 3. Document 01, "The book".
 ghost use Rattle.std.specs.Prelude.{◌≡◌, ◌+◌, ◌*◌, ◌<◌};
 ghost use Rattle.numbers.specs.Numbers.{half_limit};

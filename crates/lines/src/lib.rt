@@ -1,3 +1,4 @@
+#![tactic(auto)]
 // Lists of routines: the playing order, and those to start. Document 01, "The game".
 ghost use Rattle.std.specs.Prelude.{◌≡◌, ◌≤◌};
 ghost use Rattle.lines.specs.Lines.{most_entries, line_of, used_of, is_in, pushed};

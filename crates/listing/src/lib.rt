@@ -1,3 +1,4 @@
+#![tactic(auto)]
 // The lines of a listing, put one behind another into a lent buffer. Document 01, "Set plays". As in `texts`, a call answers how many bytes
 // are used then: one more than the buffer has where not all of it fits.
 ghost use Rattle.std.specs.Prelude.{◌≡◌};

@@ -1,3 +1,4 @@
+#![tactic(auto)]
 // The call with which the benches read a stored game.
 ghost use Rattle.std.specs.Prelude.{◌≡◌};
 ghost use Rattle.fitting.specs.Fits.{GivesFitting};

@@ -1,3 +1,4 @@
+#![tactic(auto)]
 // Reading a stored game. Document 02, Paper 2.
 mod fields;
 pub mod formed;

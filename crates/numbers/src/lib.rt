@@ -1,3 +1,4 @@
+#![tactic(auto)]
 // The numbers of a book: little-endian, of 16 bits and of 32 in two's complement.
 ghost use Rattle.std.specs.Prelude.{◌≡◌, ◌<◌, ◌≤◌, T, eqb, pos, nat_abs, ◌+ℤ◌, ◌-ℤ◌};
 ghost use Rattle.std.specs.Int.Signed.{non_neg};

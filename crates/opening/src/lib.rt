@@ -1,3 +1,4 @@
+#![tactic(auto)]
 // How a round begins and ends on its tables: the routines of a game are taken apart, one by one, and the eight actions of section 5.4 are
 // done; behind the passes the game is put together again. Actions 7 and 8 are done by what the tables begin with: all is 0.
 //

@@ -1,3 +1,4 @@
+#![tactic(auto)]
 // The call with which the benches give a game an order.
 ghost use Rattle.std.specs.Prelude.{◌≡◌};
 ghost use Rattle.fitting.specs.Fits.{GivesFitting};

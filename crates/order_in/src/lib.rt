@@ -1,3 +1,4 @@
+#![tactic(auto)]
 // Giving an outside order to a game where it is kept. Document 01, "The game".
 ghost use Rattle.std.specs.Prelude.{◌≡◌};
 ghost use Rattle.verdicts.specs.Verdicts.{accepted};

@@ -1,3 +1,4 @@
+#![tactic(auto)]
 // Giving a game an outside order. Document 01, "The game".
 ghost use Rattle.std.specs.Prelude.{◌≡◌};
 ghost use Rattle.fitting.specs.Fits.{GivesFitting};

@@ -1,3 +1,4 @@
+#![tactic(auto)]
 // Where the partner of an opening step is.
 ghost use Rattle.std.specs.Prelude.{◌≡◌, ◌-◌};
 ghost use Rattle.kinds.specs.Steps.{steps_in};

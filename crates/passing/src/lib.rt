@@ -1,3 +1,4 @@
+#![tactic(auto)]
 // Turns, passes and the passes of a round, on the tables of a round. These functions serve the open call that plays a round and ask for
 // what it has checked: a routine of an accepted book, and room for what the round leaves.
 pub mod effects;

@@ -1,3 +1,4 @@
+#![tactic(auto)]
 // A text that is read in pieces. A piece ends anywhere: its whole lines come first, and the rest belongs to the next piece.
 ghost use Rattle.std.specs.Prelude.{◌≡◌, ◌-◌, ◌≤◌, length};
 ghost use Rattle.pieces.specs.Pieces.{whole_lines, to_front};

@@ -1,3 +1,4 @@
+#![tactic(auto)]
 // The call with which the benches play a round, with its checks.
 ghost use Rattle.std.specs.Prelude.{◌≡◌, ◌≤◌};
 ghost use Rattle.verdicts.specs.Verdicts.{accepted};

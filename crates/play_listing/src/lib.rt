@@ -1,3 +1,4 @@
+#![tactic(auto)]
 // The listing of a whole play: what the program `rounds` prints for a book. Document 01, "Set plays".
 ghost use Rattle.std.specs.Prelude.{◌≡◌, take};
 ghost use Rattle.texts.specs.Texts.{filled, with_text};

@@ -1,3 +1,4 @@
+#![tactic(auto)]
 // Playing a round: the fifth call.
 ghost use Rattle.std.specs.Prelude.{◌≡◌, List, ◌≤◌, length, eqb, ℤ};
 ghost use Rattle.kinds.specs.Ops.{op_mark};

@@ -1,3 +1,4 @@
+#![tactic(auto)]
 // Books of routines: read from any bytes, and shown. Document 01, "The book" and "Turned down because of the input".
 mod checks;
 mod readers;

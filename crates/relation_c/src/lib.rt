@@ -1,3 +1,4 @@
+#![tactic(auto)]
 // The call by which a test sees how the relation test is compiled.
 ghost use Rattle.std.specs.Prelude.{◌≡◌};
 ghost use Rattle.numbers.specs.Numbers.{relation_of};

@@ -1,3 +1,4 @@
+#![tactic(auto)]
 // A round: the types in which the definitions of specs/ and the code that plays say what a step comes to.
 use numbers::Sum;
 

@@ -1,3 +1,4 @@
+#![tactic(auto)]
 // The call with which the benches time a round without the checks. Like `playing::round` it asks for what the checks see to.
 ghost use Rattle.std.specs.Prelude.{◌≡◌, ◌≤◌, length};
 ghost use Rattle.verdicts.specs.Verdicts.{accepted};

@@ -1,3 +1,4 @@
+#![tactic(auto)]
 // Plays the book of the standard input and prints its rounds with their marks, or why the book is refused.
 use play_listing::{LONGEST_BOOK, LONGEST_LISTING, list_whole};
 use texts::print;

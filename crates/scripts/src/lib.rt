@@ -1,3 +1,4 @@
+#![tactic(auto)]
 // The commands of a script on a book and a game, but for rounds. A line that is no command is told.
 mod pokes;
 mod printing;

@@ -1,3 +1,4 @@
+#![tactic(auto)]
 // Setting up a game. Document 01, "The game".
 ghost use Rattle.std.specs.Prelude.{◌≡◌};
 ghost use Rattle.fitting.specs.Fits.{GivesFitting};

@@ -1,3 +1,4 @@
+#![tactic(auto)]
 // The call with which the benches store a game.
 ghost use Rattle.std.specs.Prelude.{◌≡◌};
 ghost use Rattle.stored_games.specs.Forms.{form1};

@@ -1,3 +1,4 @@
+#![tactic(auto)]
 // The forms in which a game is kept as bytes. Document 02, Paper 2.
 ghost use Rattle.std.specs.Prelude.{◌≡◌};
 ghost use Rattle.stored_games.specs.Forms.{form1};

@@ -1,3 +1,4 @@
+#![tactic(auto)]
 // Storing a game as bytes. Document 02, Paper 2.
 mod bits;
 mod parts;

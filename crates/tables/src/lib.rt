@@ -1,3 +1,4 @@
+#![tactic(auto)]
 // The tables of a round: its state taken apart into arrays of numbers and flags, a row for each kind of thing.
 //
 // Flags: rows of MOST_ROUTINES for the end signals, those to stop, to suspend and to resume in the next round, those suspended, and those

@@ -1,3 +1,4 @@
+#![tactic(auto)]
 // Texts that are put one behind another into a lent buffer. A call that puts something puts it behind the bytes that are used already, and
 // answers how many are used then: one more than the buffer has where not all of it fits.
 ghost use Rattle.std.specs.Prelude.{◌≡◌, ◌++◌};

@@ -1,3 +1,4 @@
+#![tactic(auto)]
 // What a step comes to: where the turn goes on and with what effect, or how it ends. A tick only reads the tables of a round.
 //
 // These functions serve the code that plays: they ask for steps whose counters, signals and routines the tables have a place for, as those

@@ -1,3 +1,4 @@
+#![tactic(auto)]
 // The routines that nobody starts. Document 02, Paper 1.
 ghost use Rattle.std.specs.Prelude.{◌≡◌, ◌≤◌, length};
 ghost use Rattle.numbers.specs.Buffers.{with_front};

@@ -1,3 +1,4 @@
+#![tactic(auto)]
 // What reading a book answers, and the number and place that it stands for. Document 01, "Turned down because of the input".
 ghost use Rattle.std.specs.Prelude.{◌≡◌};
 ghost use Rattle.verdicts.specs.Verdicts.{refused, verdict_of, ◌or_else◌};

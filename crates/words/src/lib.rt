@@ -1,3 +1,4 @@
+#![tactic(auto)]
 // The words of a line of text.
 ghost use Rattle.std.specs.Prelude.{◌≡◌, ◌≤◌, max, length, take};
 ghost use Rattle.words.specs.Words.{found_at, first_of, rest_of, is_same, place_of};

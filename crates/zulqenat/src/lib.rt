@@ -1,3 +1,4 @@
+#![tactic(auto)]
 // The calls for C. A book is bytes; a game is kept as its stored form at the front of a buffer that is lent with the stored game's length.
 // c/zulqenat.h declares them.
 ghost use Rattle.std.specs.Prelude.{◌≤◌, ◌≡◌, length};

@@ -100,4 +100,4 @@ returns-in-19 c = rw (c.in-19.is, to_z-of_z c.ranges.n)
 
 pub returns-in_default : goal.returns-in_default
 unfolding row_of
-returns-in_default c = elim (ℕ_discrete c.args.op 20) [ yes e ↦ rw e | no n ↦ rw (unknown_op _ (let h = c.in_default in ?, n)) ]
+returns-in_default c = elim (ℕ_discrete c.args.op 20) [ yes e ↦ rw e | no n ↦ rw (unknown_op _ (c.in_default.in_default-own.rest, n)) ]
