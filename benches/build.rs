@@ -1,4 +1,4 @@
-//! Links the static libraries that `rt staticlib` writes.
+//! Links the static libraries that `tools/static_library.sh` writes.
 
 use std::path::Path;
 

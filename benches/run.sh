@@ -7,7 +7,7 @@ set -e
 cd "$(dirname "$0")/.."
 mkdir -p target
 for crate in zulqenat fit_c setup_c order_c store_c load_c play_c round_c; do
-    rt staticlib "$crate" >target/staticlib.log 2>&1 || { cat target/staticlib.log; exit 1; }
+    tools/static_library.sh "$crate"
 done
 # The calls by value have the names of calls on kept games: one program links both, so theirs begin with by_value_ here.
 for call in fit_c:fits setup_c:set_up order_c:order store_c:store load_c:load play_c:play round_c:round; do

@@ -3,7 +3,7 @@
 set -e
 cd "$(dirname "$0")/.."
 mkdir -p target/c
-rt staticlib zulqenat >target/staticlib.log 2>&1 || { cat target/staticlib.log; exit 1; }
+tools/static_library.sh zulqenat
 cp target/staticlib/libzulqenat.a c/zulqenat.h target/c/
 cc -shared -o target/c/libzulqenat.so -Wl,--whole-archive target/c/libzulqenat.a -Wl,--no-whole-archive
 cc -std=c11 -pedantic -O2 -Wall -Wextra -Werror -Ic -o target/c/zulqenat c/program/*.c target/c/libzulqenat.a

@@ -5,8 +5,8 @@ set -e
 root=$(CDPATH= cd -- "$(dirname "$0")/.." && pwd)
 program=$root/target/bin/$1
 if [ ! -x "$program" ] || [ -n "$(find "$root/crates" "$root/crates.txt" -newer "$program")" ]; then
-    mkdir -p "$root/target"
-    (cd "$root" && rt check "$1" >"target/$1.log" 2>&1) || { cat "$root/target/$1.log" >&2; exit 1; }
-    touch "$program"
+    mkdir -p "$root/target/bin"
+    (cd "$root/crates/$1" && rt run </dev/null >"$root/target/$1.log" 2>&1) || { cat "$root/target/$1.log" >&2; exit 1; }
+    cp "$root/crates/$1/out/$1" "$program"
 fi
 echo "$program"

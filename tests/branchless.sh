@@ -22,7 +22,7 @@ C
 leaving target/branching.o branches | grep -q '^j[^m]' || { echo "a conditional jump is not seen"; exit 1; }
 leaving target/branching.o calls | grep -q '^call' || { echo "a call is not seen"; exit 1; }
 
-rt staticlib relation_c >target/staticlib.log 2>&1 || { cat target/staticlib.log; exit 1; }
+tools/static_library.sh relation_c
 library=target/staticlib/librelation_c.a
 count=$(instructions $library zulqenat_relation | wc -l)
 [ "$count" -gt 0 ] || { echo "zulqenat_relation is not in the library"; exit 1; }
