@@ -65,16 +65,14 @@ loop-routine-preserved c =
       search rules,
     )
 
-searched :
-    (c : goal.After-loop-routine) →
-    let book = c.args.book.now in
-    directory_verdict book ≡ (if eqb c.loop-routine.sum (steps_of book) then accepted else refused 4 c.loop-routine.routine)
-searched c =
-    let l = c.before in
-    ends _ _ _ _ l.loop-routine.invariant.0 l.loop-routine.invariant.1 l.routines-all.ensures.0 c.loop-routine-test.false l.loop-routine.invariant.2
-
 pub returns-then-sum-steps : goal.returns-then-sum-steps
-returns-then-sum-steps c = rw (searched c.before.before, ← c.steps.ensures.0, ne_eqb _ _ c.if-sum-steps.true)
+returns-then-sum-steps c =
+    let l = c.loop-routine.invariant in
+    let verdict = ends _ _ _ _ l.0 l.1 c.routines-all.ensures.0 c.loop-routine-test.false l.2 in
+    rw (verdict, ← c.steps.ensures.0, ne_eqb _ _ c.if-sum-steps.true)
 
 pub returns : goal.returns
-returns c = rw (searched c.before.before, ← c.steps.ensures.0, eq-eqb _ _ c.if-sum-steps.false)
+returns c =
+    let l = c.loop-routine.invariant in
+    let verdict = ends _ _ _ _ l.0 l.1 c.routines-all.ensures.0 c.loop-routine-test.false l.2 in
+    rw (verdict, ← c.steps.ensures.0, eq-eqb _ _ c.if-sum-steps.false)

@@ -1,4 +1,4 @@
--- `directory::routine_steps_lem` meets its contract: a routine that begins past the book's end has the empty part at the book's start, one that
+-- `directory::routine_steps` meets its contract: a routine that begins past the book's end has the empty part at the book's start, one that
 -- ends past it the rest of the book, and any other lies whole in the book.
 use Prim.Native.Nat.{ℕ, ◌+◌, ◌-◌, ◌*◌, ◌<◌, ◌≤◌}
 use mathlib.Core.Path.{◌≡◌, refl, sym, ◌∙◌}
@@ -9,7 +9,8 @@ use lib.Seq.{take_all, take-nil}
 use borrow.Author.Rules.{rules}
 use borrow.Author.Tests.{lt-leb}
 use Rattle.kinds.specs.Steps.{step_bytes}
-use Rattle.directory.specs.Directory.{step_count, routine_from, routine_part, routine_steps, routine_steps_from}
+use Rattle.layout.specs.Layout.{steps_from}
+use Rattle.directory.specs.Directory.{first_step, step_count, routine_from, routine_part, routine_steps, routine_steps_from}
 use Rattle.numbers.proofs.Parts.{rest_from}
 use Rattle.directory.proofs.Directory.{begins_there, steps_there}
 use Rattle.directory.proofs.routine_steps.Goals as goal
@@ -31,36 +32,38 @@ module _ (s : List ℕ) (r : ℕ) {from size : ℕ} (begins : from ≡ routine_f
   unfolding routine_part
   rest h = rest_from s begins ∙ rw (← begins, ← bytes) (sym (take_all size (drop from s) (omega (arith, length-drop from s))))
 
+-- the same of what the calls gave: where the steps of the book begin, the first step and how many there are
 starts :
-    (c : goal.After-step_count) →
-    let args = c.args in
-    c.steps_from.result-1 + step_bytes * c.first_step.result-1 ≡ routine_from args.book.now args.routine
-starts c = rw (c.steps_from.ensures.0, c.first_step.ensures.0)
+    (s : List ℕ) (r : ℕ) {steps first : ℕ} →
+    steps ≡ steps_from s → first ≡ first_step s r → steps + step_bytes * first ≡ routine_from s r
+starts s r h k = rw (h, k)
 
-sized :
-    (c : goal.After-step_count) →
-    let args = c.args in
-    step_bytes * c.step_count.result-1 ≡ step_bytes * step_count args.book.now args.routine
-sized c = rw c.step_count.ensures.0
+sized : (s : List ℕ) (r : ℕ) {count : ℕ} → count ≡ step_count s r → step_bytes * count ≡ step_bytes * step_count s r
+sized s r h = rw h
 
 pub returns-then-book-from : goal.returns-then-book-from
 returns-then-book-from c =
-    let at = c.before.before in
-    let args = at.args in
-    let past = c.if-book-from.true in
-    let from = missing_from args.book.now args.routine (starts at) (sized at) past in
-    (missing args.book.now args.routine (starts at) (sized at) past, (refl, omega (arith, from)))
+    let s = c.args.book.now in
+    let r = c.args.routine in
+    let begins = starts s r c.steps_from.ensures.0 c.first_step.ensures.0 in
+    let bytes = sized s r c.step_count.ensures.0 in
+    let from = missing_from s r begins bytes c.if-book-from.true in
+    record { bytes = missing s r begins bytes c.if-book-from.true; place = (refl, omega (arith, from)) }
 
 pub returns-then-book-to : goal.returns-then-book-to
 returns-then-book-to c =
-    let at = c.before.before.before in
-    let args = at.args in
-    let from = there_from args.book.now args.routine (starts at) (sized at) c.if-book-from.false in
-    (rest args.book.now args.routine (starts at) (sized at) c.if-book-to.true, (refl, omega (arith, from)))
+    let s = c.args.book.now in
+    let r = c.args.routine in
+    let begins = starts s r c.steps_from.ensures.0 c.first_step.ensures.0 in
+    let bytes = sized s r c.step_count.ensures.0 in
+    let from = there_from s r begins bytes c.if-book-from.false in
+    record { bytes = rest s r begins bytes c.if-book-to.true; place = (refl, omega (arith, from)) }
 
 pub returns : goal.returns
 returns c =
-    let at = c.before.before.before in
-    let args = at.args in
-    let from = there_from args.book.now args.routine (starts at) (sized at) c.if-book-from.false in
-    (steps_there args.book.now args.routine (starts at) (sized at), (refl, omega (arith, from)))
+    let s = c.args.book.now in
+    let r = c.args.routine in
+    let begins = starts s r c.steps_from.ensures.0 c.first_step.ensures.0 in
+    let bytes = sized s r c.step_count.ensures.0 in
+    let from = there_from s r begins bytes c.if-book-from.false in
+    record { bytes = steps_there s r begins bytes; place = (refl, omega (arith, from)) }

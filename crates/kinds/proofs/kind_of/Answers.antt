@@ -2,7 +2,6 @@
 -- table's last row, or one past the table. What the machine reads back of n is n, since n fits 32 bits.
 use mathlib.Core.Path.{◌≡◌}
 use native.Mathlib.Decide.{ℕ_discrete}
-use borrow.Author.Rules.{rules}
 use mir.Facts.{to_z-of_z}
 use Rattle.numbers.specs.Numbers.{count_of}
 use Rattle.kinds.specs.Steps.{row_of}

@@ -1,18 +1,7 @@
 -- `layout::check_layout` meets its contract: a check that passes drops out of the verdict, and the first that does not is it.
--- `past_counts` says what is left of the verdict where length and counts have passed: the test of the layout.
-use mathlib.Core.Path.{◌≡◌}
-use borrow.Author.Rules.{rules}
 use borrow.Author.Tests.{le-leb, lt-leb}
-use Rattle.verdicts.specs.Verdicts.{refused, unless}
-use Rattle.layout.specs.Layout.{layout_fits, layout_verdict}
+use Rattle.layout.specs.Layout.{layout_verdict}
 use Rattle.layout.proofs.check_layout.Goals as goal
-
-past_counts :
-    (c : goal.Then-counts_fit) →
-    let s = c.args.book.now in
-    layout_verdict s ≡ unless (layout_fits s) (refused 3 0)
-unfolding layout_verdict
-past_counts c = rw (le-leb _ _ c.if-book-lt-HEADER_BYTES.false, ← c.counts_fit.ensures, c.if-counts_fit.true)
 
 pub returns-then-book-lt-HEADER_BYTES : goal.returns-then-book-lt-HEADER_BYTES
 unfolding layout_verdict
@@ -20,11 +9,13 @@ returns-then-book-lt-HEADER_BYTES c = rw (lt-leb _ _ c.if-book-lt-HEADER_BYTES.t
 
 pub returns-then-layout_fits : goal.returns-then-layout_fits
 unfolding layout_verdict
-returns-then-layout_fits c = rw (past_counts c.before.before, ← c.layout_fits.ensures, c.if-layout_fits.true)
+returns-then-layout_fits c =
+    rw (le-leb _ _ c.if-book-lt-HEADER_BYTES.false, ← c.counts_fit.ensures, c.if-counts_fit.true, ← c.layout_fits.ensures, c.if-layout_fits.true)
 
 pub returns-else-layout_fits : goal.returns-else-layout_fits
 unfolding layout_verdict
-returns-else-layout_fits c = rw (past_counts c.before.before, ← c.layout_fits.ensures, c.if-layout_fits.false)
+returns-else-layout_fits c =
+    rw (le-leb _ _ c.if-book-lt-HEADER_BYTES.false, ← c.counts_fit.ensures, c.if-counts_fit.true, ← c.layout_fits.ensures, c.if-layout_fits.false)
 
 pub returns-else-counts_fit : goal.returns-else-counts_fit
 unfolding layout_verdict

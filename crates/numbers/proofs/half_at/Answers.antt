@@ -2,7 +2,6 @@
 -- and so does the code; elsewhere `half` gives the number.
 use Prim.Native.Nat.{◌+◌}
 use native.Mathlib.Omega.{arith}
-use borrow.Author.Rules.{rules}
 use lib.ListN.{get_or-eq_default}
 use Rattle.numbers.proofs.half_at.Goals as goal
 

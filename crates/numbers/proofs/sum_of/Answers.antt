@@ -3,7 +3,6 @@
 use Prim.Native.Nat.{◌^◌, ◌≤◌}
 use mathlib.Core.Path.{◌≡◌, ◌∙◌}
 use native.Mathlib.Omega.{arith}
-use borrow.Author.Rules.{rules}
 use lib.IntN.{ℤ, nat_abs, ◌+ℤ◌}
 use lib.Signed.{nat_abs-le}
 use mir.Syntax.{w32, w64}

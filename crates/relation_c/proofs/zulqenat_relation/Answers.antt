@@ -1,5 +1,4 @@
 -- `relation_c::zulqenat_relation` meets its contract: v and n are handed on as they are, since each fits 32 bits.
-use borrow.Author.Rules.{rules}
 use mir.Facts.{to_z-of_z}
 use Rattle.relation_c.proofs.zulqenat_relation.Goals as goal
 

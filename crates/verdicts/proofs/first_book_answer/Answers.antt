@@ -1,5 +1,4 @@
 -- `verdicts::first_book_answer` meets its contract: the verdict that the code tests is the first answer's, and its test is the contract's.
-use borrow.Author.Rules.{rules}
 use borrow.Author.Tests.{ne_eqb}
 use Rattle.verdicts.proofs.first_book_answer.Goals as goal
 

@@ -1,6 +1,5 @@
 -- `verdicts::verdict_of` meets its contract: in each arm the answer is known, so that the contract's verdict computes to what `as_verdict`
 -- gives.
-use borrow.Author.Rules.{rules}
 use Rattle.verdicts.proofs.verdict_of.Goals as goal
 
 pub returns-in-Accepted : goal.returns-in-Accepted
