@@ -1,8 +1,7 @@
 -- `lines::is_in` meets its contract. The invariant: none of the entries before `at` is the routine.
-use Prim.Native.Nat.{ℕ, ◌-◌, ◌<◌, ◌≤◌}
+use Prim.Native.Nat.{ℕ, ◌<◌, ◌≤◌}
 use mathlib.Core.Path.{◌≡◌, refl}
-use mathlib.Core.Bool.{Bool, true, false}
-use lib.Dec.{eqb}
+use mathlib.Core.Bool.{true, false}
 use borrow.Author.Rules.{rules}
 use borrow.Author.Tests.{eq-eqb, ne_eqb}
 use Rattle.lines.specs.declared.Line.{Line}
@@ -34,7 +33,7 @@ pub loop-at-preserved : goal.loop-at-preserved
 loop-at-preserved c =
     let l = c.before.before.before in
     let args = l.args in
-    (any_next (is_at args.t1 args.routine) l.loop-at.at l.loop-at.invariant.0 (ne_eqb _ _ c.if-line-at.false), search rules)
+    (any_next (is_at args.line args.routine) l.loop-at.at l.loop-at.invariant.0 (ne_eqb _ _ c.if-line-at.false), search rules)
 
 pub returns : goal.returns
 returns c =

@@ -1,14 +1,11 @@
 -- `lines::is_in` meets its contract. The invariant: none of the entries before `at` is the routine.
-use Prim.Native.Nat.{ℕ, ◌-◌, ◌<◌, ◌≤◌}
-use mathlib.Core.Path.{◌≡◌, refl}
-use mathlib.Core.Bool.{Bool, true, false}
+use Prim.Native.Nat.{ℕ, ◌-◌, ◌≤◌}
+use mathlib.Core.Path.{◌≡◌}
+use mathlib.Core.Bool.{Bool, false}
 use lib.Dec.{eqb}
-use borrow.Author.Rules.{rules}
-use borrow.Author.Tests.{eq-eqb, ne_eqb}
 use Rattle.lines.specs.declared.Line.{Line}
 use Rattle.numbers.specs.Counting.{any_below}
-use Rattle.lines.specs.Lines.{item_at, used_of, is_in}
-use Rattle.numbers.proofs.Below.{any_holds, any_next, any_ends}
+use Rattle.lines.specs.Lines.{item_at}
 use Rattle.lines.proofs.is_in.Given as goal
 
 -- entry i is routine r

@@ -1,5 +1,4 @@
 -- `lines::push_entry` meets its contract: the code's test is the contract's.
-use borrow.Author.Rules.{rules}
 use borrow.Author.Tests.{lt-ltb, le-ltb}
 use Rattle.lines.proofs.push_entry.Goals as goal
 
