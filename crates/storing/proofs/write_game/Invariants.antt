@@ -17,7 +17,7 @@ use Rattle.storing.proofs.Puts.{then, joined_starts, joined_next, joined_ends}
 use Rattle.storing.proofs.write_game.Given as goal
 
 abbrev pub invariant-loop-routine : goal.invariant-loop-routine
-invariant-loop-routine l = Put l.initial.l.end (records_part l.form l.counts-1 l.routine) l.l.counts-1 l.out-1 l.end × (l.routine ≤ l.initial.l.out-1)
+invariant-loop-routine l = Put l.initial.end (records_part l.form l.game l.routine) l.initial.out l.out l.end × (l.routine ≤ l.all)
 
 abbrev pub decreases-loop-routine : goal.decreases-loop-routine
-decreases-loop-routine l = l.initial.l.out-1 - l.routine
+decreases-loop-routine l = l.all - l.routine

@@ -47,14 +47,14 @@ pub returns-then-v-lt0 : goal.returns-then-v-lt0
 returns-then-v-lt0 c = omega (arith, counted c, (up c.before).1)
 
 -- from 0 on
-level : (c : goal.Else-v-lt0) → let v = c.args.v in (count_of v ≡ mag v) × (complement v ≡ mag v)
+level : (c : goal.After-count-else-v-lt0) → let v = c.args.v in (count_of v ≡ mag v) × (complement v ≡ mag v)
 level c = from_zero c.args.v (rw (to_z-of_z c.ranges.v) at c.if-v-lt0.false)
 
 counted_2 : (c : goal.After-count-else-v-lt0) → c.count-else-v-lt0.result ≡ mag c.args.v
-counted_2 c = rw (to_z-of_z c.ranges.v, (level c.before).0) at c.count-else-v-lt0.ensures
+counted_2 c = rw (to_z-of_z c.ranges.v, (level c).0) at c.count-else-v-lt0.ensures
 
 pub overflow_cast-result-else-v-lt0 : goal.overflow_cast-result-else-v-lt0
 overflow_cast-result-else-v-lt0 c = record { fits = rw (counted_2 c) (omega (arith, c.ranges.v.sfits)) }
 
 pub returns-else-v-lt0 : goal.returns-else-v-lt0
-returns-else-v-lt0 c = rw (level c.before).1 (counted_2 c)
+returns-else-v-lt0 c = rw (level c).1 (counted_2 c)

@@ -34,7 +34,7 @@ loop-done-preserved c =
 pub returns : goal.returns
 returns c =
     let l = c.loop-done in
-    let s = c.before.before in
+    let s = c in
     let none : drop l.done s.args.bytes.now ≡ [] = drop_of_length-le _ c.loop-done-test.false in
     record {
       room = s.requires;

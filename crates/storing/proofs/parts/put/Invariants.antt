@@ -14,7 +14,10 @@ use Rattle.numbers.proofs.Buffers.{part_one}
 use Rattle.storing.proofs.parts.put.Given as goal
 
 abbrev pub invariant-loop-done : goal.invariant-loop-done
-invariant-loop-done l = (with_part (l.bytes + l.done) (drop l.done l.initial.l.out) l.out ≡ with_part l.bytes l.initial.l.out l.l.bytes) × (l.done ≤ length l.initial.l.out) × (length l.out ≡ length l.l.bytes)
+invariant-loop-done l =
+    (with_part (l.at + l.done) (drop l.done l.bytes) l.out ≡ with_part l.at l.bytes l.initial.out)
+    × (l.done ≤ length l.bytes)
+    × (length l.out ≡ length l.initial.out)
 
 abbrev pub decreases-loop-done : goal.decreases-loop-done
-decreases-loop-done l = length l.initial.l.out - l.done
+decreases-loop-done l = length l.bytes - l.done

@@ -18,12 +18,12 @@ use Rattle.storing.proofs.parts.put_counters.Invariants.{counter_bytes_of}
 use Rattle.storing.proofs.parts.put_counters.Goals as goal
 
 pub loop-done-init : goal.loop-done-init
-loop-done-init c = let s = c.before in (joined_starts _ s.args.at s.args.out-1.now (omega (arith, s.requires)), search rules)
+loop-done-init c = (joined_starts _ c.args.at c.args.out.now (omega (arith, c.requires)), search rules)
 
 pub put-end-requires : goal.put-end-requires
 put-end-requires c =
-    let w = c.before.before in
-    let i = w.before.before.before in
+    let w = c in
+    let i = c in
     let l = i.loop-done in
     let put = l.invariant.0 in
     let place = joined_place _ l.done put 4 (λ k. refl) in
@@ -31,8 +31,8 @@ put-end-requires c =
 
 pub loop-done-preserved : goal.loop-done-preserved
 loop-done-preserved c =
-    let w = c.before.before.before.before.before in
-    let i = w.before.before.before in
+    let w = c in
+    let i = c in
     let l = i.loop-done in
     let values = i.args.values.now in
     let value : SFits w32 (get_or values l.done (pos 0)) = search rules in

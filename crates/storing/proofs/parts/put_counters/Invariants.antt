@@ -20,7 +20,7 @@ abbrev pub counter_bytes_of : List ℤ → ℕ → List ℕ
 counter_bytes_of values c = word_bytes (complement (get_or values c (pos 0)))
 
 abbrev pub invariant-loop-done : goal.invariant-loop-done
-invariant-loop-done l = Put l.initial.out-1 (joined_below l.done (counter_bytes_of l.values)) l.l.initial.out-1 l.out-1 l.end × (l.done ≤ l.count)
+invariant-loop-done l = Put l.at (joined_below l.done (counter_bytes_of l.values)) l.initial.out l.out l.end × (l.done ≤ l.count)
 
 abbrev pub decreases-loop-done : goal.decreases-loop-done
 decreases-loop-done l = l.count - l.done

@@ -11,14 +11,11 @@ use Rattle.storing.proofs.parts.put_line.Goals as goal
 
 pub slice_bounds-put-end : goal.slice_bounds-put-end
 slice_bounds-put-end c =
-    let u = c.before.before.before.before.before.before in
-    let long : length u.args.line.items-1 ≡ most_entries = search rules in
-    omega (arith, long, u.used-all.ensures.1)
+    let long : length c.args.line.items ≡ most_entries = search rules in
+    omega (arith, long, c.used-all.ensures.1)
 
 pub returns : goal.returns
 unfolding line_bytes
 returns c =
-    let p = c.before.before in
-    let h = p.before.before.before.before.before.before in
-    let used = h.used-all in
-    then h.put_half-end.ensures (rw (sub-zero used.result, used.ensures.0) at p.put.ensures)
+    let used = c.used-all in
+    then c.put_half-end.ensures (rw (sub-zero used.result, used.ensures.0) at c.put.ensures)

@@ -7,6 +7,4 @@ use Rattle.storing.proofs.parts.put_record.Goals as goal
 pub returns : goal.returns
 unfolding record_of
 returns c =
-    let p = c.before.before in
-    let f = p.before.before.before.before in
-    rw (sub-zero f.args.form.recordsize, f.fields_of-fields.ensures) at p.put.ensures
+    rw (sub-zero c.args.form.recordsize, c.fields_of-fields.ensures) at c.put.ensures

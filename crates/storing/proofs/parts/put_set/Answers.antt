@@ -13,20 +13,20 @@ use Rattle.storing.proofs.parts.put_set.Invariants.{set_bytes_of}
 use Rattle.storing.proofs.parts.put_set.Goals as goal
 
 pub loop-done-init : goal.loop-done-init
-loop-done-init c = let s = c.before in (joined_starts _ s.args.at s.args.out-1.now (omega (arith, s.requires.1.1)), search rules)
+loop-done-init c = (joined_starts _ c.args.at c.args.out.now (omega (arith, c.requires.flags_len.1)), search rules)
 
 pub put-end-requires : goal.put-end-requires
 put-end-requires c =
-    let i = c.before.before.before in
+    let i = c in
     let l = i.loop-done in
     let put = l.invariant.0 in
     let place = joined_place _ l.done put 1 (λ k. refl) in
-    omega (arith, place, put.same_length, i.loop-done-test.true, i.requires.1.1)
+    omega (arith, place, put.same_length, i.loop-done-test.true, i.requires.flags_len.1)
 
 pub loop-done-preserved : goal.loop-done-preserved
 loop-done-preserved c =
-    let b = c.before.before.before.before.before in
-    let i = b.before in
+    let b = c in
+    let i = c in
     let l = i.loop-done in
     let flags = i.args.flags.now in
     let put = rw b.set_byte.ensures at c.put-end.ensures in

@@ -15,7 +15,7 @@ abbrev pub set_bytes_of : List Bool → ℕ → List ℕ
 set_bytes_of flags k = set_byte flags k ∷ []
 
 abbrev pub invariant-loop-done : goal.invariant-loop-done
-invariant-loop-done l = Put l.all (joined_below l.done (set_bytes_of l.flags)) l.l.all l.out-1 l.end × (l.done ≤ l.initial.l.out-1)
+invariant-loop-done l = Put l.at (joined_below l.done (set_bytes_of l.flags)) l.initial.out l.out l.end × (l.done ≤ l.all)
 
 abbrev pub decreases-loop-done : goal.decreases-loop-done
-decreases-loop-done l = l.initial.l.out-1 - l.done
+decreases-loop-done l = l.all - l.done

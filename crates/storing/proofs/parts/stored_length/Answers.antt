@@ -7,7 +7,7 @@ use Rattle.storing.proofs.Room.{lists_near}
 use Rattle.storing.proofs.parts.stored_length.Goals as goal
 
 near : (c : goal.After-lists_from) → c.lists_from.result ≤ 782
-near c = let p = c.requires in omega (arith, c.lists_from.ensures, lists_near p.0 p.1.0)
+near c = let p = c.requires in omega (arith, c.lists_from.ensures, lists_near p.usable p.within_limits)
 
 pub returns : goal.returns
 unfolding length_of
