@@ -38,6 +38,7 @@ module _ {A : Type 0} (P : A → Type 0) where
   somewhere_append (x ∷ a) b (inr h) = elim (somewhere_append a b h) [ inl k ↦ inl (inr k) | inr k ↦ inr k ]
 
   pub in_first : (a b : List A) → Somewhere P a → Somewhere P (a ++ b)
+  in_first [] b w = elim w [ ]
   in_first (h ∷ a) b (inl w) = inl w
   in_first (h ∷ a) b (inr w) = inr (in_first a b w)
 

@@ -104,6 +104,7 @@ module _ (book : List ℕ) where
   of_try :
       (r p : ℕ) (t : Thing) (events : List Event) → OfTheirSteps events →
       Somewhere (λ h. (h ≡ missing r p t) ⊎ (h ≡ past r p t)) events → AsksFor (routine_step book r p) t
+  of_try r p t [] o w = elim w [ ]
   of_try r p t (h ∷ events) o (inl (inl e)) = subst (λ k. OfItsStep k events) e o.0
   of_try r p t (h ∷ events) o (inl (inr e)) = subst (λ k. OfItsStep k events) e o.0
   of_try r p t (h ∷ events) o (inr w) = of_try r p t events o.1 w

@@ -107,7 +107,9 @@ carries_one {s} {u} r p e k below b =
     come :
         length s.present ≡ most_signals → (t : Thing) → is_given t ≡ true → Somewhere (Comes t) (completed r p ∷ gave e k ∷ []) →
         is_there u t ≡ true
+    come l t g (inl e) = elim e [ ]
     come l t g (inr (inl m)) = come_there t (omega arith) b m
+    come l t g (inr (inr h)) = elim h [ ]
 
 -- no step of a turn touches what no effect does
 module _ (counts : Counts) (r : ℕ) (steps : List ℕ) where

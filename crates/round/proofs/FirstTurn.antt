@@ -44,6 +44,7 @@ module _ (P : Event → Type 0) where
 
   -- where the event is
   event_at : (events : List Event) → Somewhere P events → (h : Event) × (b c : List Event) × P h × (events ≡ b ++ (h ∷ c))
+  event_at [] w = elim w [ ]
   event_at (h ∷ events) (inl p) = (h, [], events, p, refl)
   event_at (h ∷ events) (inr w) = let (k, b, c, p, e) = event_at events w in (k, h ∷ b, c, p, ap (λ l. h ∷ l) e)
 

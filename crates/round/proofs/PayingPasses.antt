@@ -47,6 +47,7 @@ module _
       total_pays :
           (L : List ℕ) → Among r L → how_many test (turn book r s).trace + total left L (turn book r s).state ≤ total left L s
       unfolding sum_over
+      total_pays [] h = elim h [ ]
       total_pays (q ∷ qs) (inl e) = rw (← e) (omega (arith, pays r s l, over_le _ _ qs (λ q k. no_more q)))
       total_pays (q ∷ qs) (inr h) = omega (arith, no_more q, total_pays qs h)
 

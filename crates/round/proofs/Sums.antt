@@ -31,6 +31,7 @@ others_sum f g r others (q ∷ qs) out =
 module _ (f g : ℕ → ℕ) (r : ℕ) (others : (q : ℕ) → q ≢ r → g q ≡ f q) where
   pub own_sum : (n : ℕ) → n + f r ≡ g r → (L : List ℕ) → Distinct L → Among r L → n + sum_over f L ≡ sum_over g L
   unfolding sum_over
+  own_sum n own [] d h = elim h [ ]
   own_sum n own (q ∷ qs) d (inl e) = rw (← e) (omega (arith, own, others_sum f g r others qs (rw (← e) at d.0)))
   own_sum n own (q ∷ qs) d (inr h) = omega (arith, others q (λ e. d.0 (rw e h)), own_sum n own qs d.1 h)
 

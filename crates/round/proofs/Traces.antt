@@ -42,6 +42,7 @@ module _ {A : Type 0} (test : A → Bool) where
   pub no_event :
       (P : A → Type 0) → ((h : A) → P h → test h ≡ true) → (events : List A) → how_many test events ≡ 0 → Somewhere P events → ⊥
   unfolding how_many
+  no_event P passes [] e p = elim p [ ]
   no_event P passes (h ∷ events) e (inl p) = clash (passes h p) (none_of_all (test h) _ e).0
   no_event P passes (h ∷ events) e (inr p) = no_event P passes events (none_of_all (test h) _ e).1 p
 

@@ -129,6 +129,7 @@ module _
         brought (end q) k = elim (somewhere_append (Comes (end q)) before (ended r ∷ []) (subst (Somewhere (Comes (end q))) trace k)) [
           | inl m ↦ absurd (no_event ends_routine (Comes (end q)) end_ends before no_end m)
           | inr (inl m) ↦ rw (end_of m) end_there
+          | inr (inr m) ↦ elim m [ ]
         ]
         brought (number e n) k = stays (number e n) (c.brings signals (number e n) refl k)
 
