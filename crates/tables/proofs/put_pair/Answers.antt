@@ -15,10 +15,10 @@ pub returns-then-count-pairs : goal.returns-then-count-pairs
 unfolding pair_put
 returns-then-count-pairs c =
     let room = lt-ltb _ _ c.if-count-pairs.true in
-    (rw room, simp (room, to_z-of_z c.ranges.second, to_z_pos w32 c.requires))
+    record { value = rw room; pairs_after = simp (room, to_z-of_z c.ranges.second, to_z_pos w32 c.requires) }
 
 pub returns : goal.returns
 unfolding pair_put
 returns c =
     let full = le-ltb _ _ c.if-count-pairs.false in
-    (rw full, rw full)
+    record { value = rw full; pairs_after = rw full }

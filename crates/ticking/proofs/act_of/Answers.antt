@@ -44,35 +44,35 @@ counter_at-requires-in-While c = rw c.in-While.is at c.requires.1
 pub returns-in-Mark : goal.returns-in-Mark
 unfolding tick_of state_of
 returns-in-Mark c =
-    let k = c.kind.given in
-    let n : SFits w32 k.0.0 = search rules in
-    λ g t h. rw (k.1, to_z-of_z n)
+    let k = c.in-Mark in
+    let n : SFits w32 k.n = search rules in
+    λ g t h. rw (k.is, to_z-of_z n)
 
 pub returns-in-Set : goal.returns-in-Set
 unfolding tick_of state_of
 returns-in-Set c =
-    let k = c.kind2.given in
-    let n : SFits w32 k.0.1.0 = search rules in
-    λ g t h. rw (k.1, to_z-of_z n)
+    let k = c.in-Set in
+    let n : SFits w32 k.n = search rules in
+    λ g t h. rw (k.is, to_z-of_z n)
 
 pub returns-in-Add : goal.returns-in-Add
 unfolding tick_of state_of
 returns-in-Add c =
-    let k = c.kind3.given in
+    let k = c.in-Add in
     let v = c.counter_at in
-    let n : SFits w32 k.0.1.0 = search rules in
+    let n : SFits w32 k.n = search rules in
     let fits : SFits w32 v.result = search rules in
-    λ g t h. rw (k.1, ← v.ensures, ← (rw (to_z-of_z n, to_z-of_z fits) at c.sum_of.ensures))
+    λ g t h. rw (k.is, ← v.ensures, ← (rw (to_z-of_z n, to_z-of_z fits) at c.sum_of.ensures))
 
 pub returns-in-Take : goal.returns-in-Take
 unfolding tick_of state_of
 returns-in-Take c =
-    let k = c.kind4.given in
+    let k = c.in-Take in
     let v = c.counter_at-in-Take in
     let n = c.counter_at-in-Take-2 in
     let first : SFits w32 v.result = search rules in
     let second : SFits w32 n.result = search rules in
-    λ g t h. rw (k.1, ← v.ensures, ← n.ensures, ← (rw (to_z-of_z first, to_z-of_z second) at c.sum_of-in-Take.ensures))
+    λ g t h. rw (k.is, ← v.ensures, ← n.ensures, ← (rw (to_z-of_z first, to_z-of_z second) at c.sum_of-in-Take.ensures))
 
 pub returns-in-Signal : goal.returns-in-Signal
 unfolding tick_of state_of
@@ -96,35 +96,31 @@ returns-in-RestFor c = λ g t h. rw (c.in-RestFor.is, ← c.count_at.ensures) c.
 pub returns-in-Wait : goal.returns-in-Wait
 unfolding tick_of state_of is_there
 returns-in-Wait c =
-    let p = c.before.before in
-    let k = p.kind8.given in
-    λ g t h. rw (k.1, choice_act, ← p.is_present.ensures, ← c.fresh-in-Wait.ensures) c.tries.ensures
+    let k = c.in-Wait in
+    λ g t h. rw (k.is, choice_act, ← c.is_present.ensures, ← c.fresh-in-Wait.ensures) c.tries.ensures
 
 pub returns-in-WaitFor : goal.returns-in-WaitFor
 unfolding tick_of state_of is_there waits_for
 returns-in-WaitFor c =
-    let p = c.before.before in
-    let k = p.kind9.given in
-    λ g t h. rw (k.1, timed_act, ← p.is_present-in-WaitFor.ensures, ← c.count_at-in-WaitFor.ensures) c.waits_for.ensures
+    let k = c.in-WaitFor in
+    λ g t h. rw (k.is, timed_act, ← c.is_present-in-WaitFor.ensures, ← c.count_at-in-WaitFor.ensures) c.waits_for.ensures
 
 pub returns-in-Join : goal.returns-in-Join
 unfolding tick_of state_of is_there
 returns-in-Join c =
-    let p = c.before.before in
-    let k = p.kind10.given in
-    let r = rw k.1 at p.requires.1 in
+    let k = c.in-Join in
+    let r = rw k.is at c.requires.1 in
     λ g t h.
-    rw (k.1, choice_act, end_held g _ _ _ _ t _ k.0.0 r, ← p.end_there.ensures, ← c.fresh-in-Join.ensures)
+    rw (k.is, choice_act, end_held g _ _ _ _ t _ k.t r, ← c.end_there.ensures, ← c.fresh-in-Join.ensures)
     c.tries-in-Join.ensures
 
 pub returns-in-JoinFor : goal.returns-in-JoinFor
 unfolding tick_of state_of is_there waits_for
 returns-in-JoinFor c =
-    let p = c.before.before in
-    let k = p.kind11.given in
-    let r = (rw k.1 at p.requires.1).0 in
+    let k = c.in-JoinFor in
+    let r = (rw k.is at c.requires.1).0 in
     λ g t h.
-    rw (k.1, timed_act, end_held g _ _ _ _ t _ k.0.0 r, ← p.end_there-in-JoinFor.ensures, ← c.count_at-in-JoinFor.ensures)
+    rw (k.is, timed_act, end_held g _ _ _ _ t _ k.t r, ← c.end_there-in-JoinFor.ensures, ← c.count_at-in-JoinFor.ensures)
     c.waits_for-in-JoinFor.ensures
 
 pub returns-in-Read : goal.returns-in-Read
@@ -150,11 +146,11 @@ returns-in-Resume c = λ g t h. rw c.in-Resume.is
 pub returns-in-If : goal.returns-in-If
 unfolding tick_of state_of
 returns-in-If c =
-    let k = c.kind17.given in
+    let k = c.in-If in
     let v = c.counter_at-in-If in
-    let n : SFits w32 k.0.1.1.0 = search rules in
+    let n : SFits w32 k.n = search rules in
     let fits : SFits w32 v.result = search rules in
-    λ g t h. rw (k.1, ← v.ensures) (rw (to_z-of_z n, to_z-of_z fits) at c.tests.ensures)
+    λ g t h. rw (k.is, ← v.ensures) (rw (to_z-of_z n, to_z-of_z fits) at c.tests.ensures)
 
 pub returns-in-Else : goal.returns-in-Else
 unfolding tick_of state_of
@@ -163,11 +159,11 @@ returns-in-Else c = λ g t h. rw (c.in-Else.is, c.past_partner.ensures)
 pub returns-in-While : goal.returns-in-While
 unfolding tick_of state_of
 returns-in-While c =
-    let k = c.kind18.given in
+    let k = c.in-While in
     let v = c.counter_at-in-While in
-    let n : SFits w32 k.0.1.1.0 = search rules in
+    let n : SFits w32 k.n = search rules in
     let fits : SFits w32 v.result = search rules in
-    λ g t h. rw (k.1, ← v.ensures) (rw (to_z-of_z n, to_z-of_z fits) at c.tests-in-While.ensures)
+    λ g t h. rw (k.is, ← v.ensures) (rw (to_z-of_z n, to_z-of_z fits) at c.tests-in-While.ensures)
 
 pub returns-in-End : goal.returns-in-End
 unfolding tick_of state_of

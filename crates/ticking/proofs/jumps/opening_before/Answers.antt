@@ -37,7 +37,7 @@ pub loop-at-preserved : goal.loop-at-preserved
 loop-at-preserved c =
     let l = c.before.before.before in
     let h = sym (opening_on _ l.loop-at.depth l.loop-at.at c.loop-at-test.true) ∙ l.loop-at.invariant.0 in
-    let others = c.match.rest in
+    let others = c.in_default.in_default-own.rest in
     (simp (ne_eqb _ _ others.0.1, ne_eqb _ _ (λ e. others.1 (inl e)), ne_eqb _ _ (λ e. others.1 (inr e))) at h, omega arith)
 
 pub returns : goal.returns

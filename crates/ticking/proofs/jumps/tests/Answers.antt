@@ -20,7 +20,7 @@ answer :
 answer c = let f = c.ranges in rw (to_z-of_z f.n, to_z-of_z f.v) at c.relation.ensures
 
 pub returns-then-relation-eq1 : goal.returns-then-relation-eq1
-returns-then-relation-eq1 c = rw (← (answer c.before), eq-eqb _ _ c.if-relation-eq1.true)
+returns-then-relation-eq1 c = rw (← (answer c.before.before), eq-eqb _ _ c.if-relation-eq1.true)
 
 pub returns-else-relation-eq1 : goal.returns-else-relation-eq1
-returns-else-relation-eq1 c = rw (← (answer c.before.before), ne_eqb _ _ c.if-relation-eq1.false, c.past_partner.ensures)
+returns-else-relation-eq1 c = rw (← (answer c.before.before.before), ne_eqb _ _ c.if-relation-eq1.false, c.past_partner.ensures)

@@ -1,7 +1,6 @@
 -- `ticking::tries::find` meets its contract. The invariant: so many of the k are left, and they are sought from the pair `at` on.
 use Prim.Native.Nat.{◌-◌, ◌*◌, ◌≤◌}
 use mathlib.Core.Path.{sym}
-use mathlib.Core.Logic.{⊎_elim}
 use native.Mathlib.Omega.{arith}
 use lib.IntN.{pos}
 use lib.ListN.{get_or}
@@ -11,6 +10,7 @@ use mir.Facts.{to_z-of_z}
 use borrow.Author.Rules.{rules}
 use borrow.Author.Tests.{lt-ltb, le-ltb}
 use Rattle.ticking.proofs.Seeking.{Sought, sought_all, passes, counts, found, lost}
+use Rattle.ticking.proofs.tries.find.Goals.{then-is_signal+else-left-le1, else-is_signal}
 use Rattle.ticking.proofs.tries.find.Goals as goal
 
 pub loop-at-init : goal.loop-at-init
@@ -24,7 +24,7 @@ returns-then-left-le1 c =
     let test = rw (to_z-of_z f, c.if-is_signal.true) at c.is_signal.ensures in
     let below = c.loop-at-test.true in
     let it = found _ _ _ _ l.requires.0 _ _ l.loop-at.invariant.0 below (sym test) c.if-left-le1.true in
-    (rw (lt-ltb _ _ below) (sym it.0), λ h. it.1)
+    record { count_value = rw (lt-ltb _ _ below) (sym it.0); pos_value = λ h. it.1 }
 
 pub loop-at-preserved : goal.loop-at-preserved
 loop-at-preserved c =
@@ -35,14 +35,15 @@ loop-at-preserved c =
     let below = c.loop-at-test.true in
     let inv = l.loop-at.invariant.0 in
     let fits = l.requires.0 in
-    ⊎_elim
-    (λ w. (rw w.2 (counts _ _ _ _ fits _ _ inv below (sym (rw w.0.taken at test)) w.1.left), search rules))
-    (λ w. (rw w.1 (passes _ _ _ _ fits _ _ inv below (sym (rw w.0.left at test))), search rules))
-    c.if-is_signal.branch
+    elim c.if-is_signal.branch [
+      | then-is_signal+else-left-le1 w ↦
+          (rw w.left-is (counts _ _ _ _ fits _ _ inv below (sym (rw w.if-is_signal.true at test)) w.if-left-le1.false), search rules)
+      | else-is_signal w ↦ (rw w.left-is (passes _ _ _ _ fits _ _ inv below (sym (rw w.if-is_signal.false at test))), search rules)
+    ]
 
 pub returns : goal.returns
 returns c =
     let l = c.before in
     let all = l.args.count in
     let none = lost _ _ _ _ l.requires.0 _ _ l.loop-at.invariant.0 c.loop-at-test.false in
-    (rw none (le-ltb all all (omega arith)), λ h. absurd (omega (arith, h)))
+    record { count_value = rw none (le-ltb all all (omega arith)); pos_value = λ h. absurd (omega (arith, h)) }

@@ -1,7 +1,6 @@
 -- `ticking::tries::find` meets its contract. The invariant: so many of the k are left, and they are sought from the pair `at` on.
 use Prim.Native.Nat.{◌-◌, ◌*◌, ◌≤◌}
 use mathlib.Core.Path.{sym}
-use mathlib.Core.Logic.{⊎_elim}
 use native.Mathlib.Omega.{arith}
 use lib.IntN.{pos}
 use lib.ListN.{get_or}

@@ -14,9 +14,8 @@ returns-then-at-count c =
     let f = c.find-at in
     let below = c.if-at-count.true in
     let fits : SFits w32 (get_or c.args.given.now (2 * f.result + 1) (pos 0)) = search rules in
-    rw (← f.ensures.0, lt-ltb _ _ below, ← (f.ensures.1 below), to_z-of_z fits)
+    rw (← f.ensures.count_value, lt-ltb _ _ below, ← (f.ensures.pos_value below), to_z-of_z fits)
 
 pub returns : goal.returns
 returns c =
-    let left = c.before.before.before in
-    rw (← left.find-at.ensures.0, le-ltb _ _ left.if-at-count.false, ← c.fresh.ensures) c.when_missing.ensures
+    rw (← c.find-at.ensures.count_value, le-ltb _ _ c.if-at-count.false, ← c.fresh.ensures) c.when_missing.ensures
