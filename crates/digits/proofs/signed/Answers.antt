@@ -54,23 +54,23 @@ pub returns-in_default : goal.returns-in_default
 returns-in_default c = rw (behind_minus c.before.before, c.in_default.is)
 
 pub returns-then-below-gt-LOWEST : goal.returns-then-below-gt-LOWEST
-returns-then-below-gt-LOWEST c = rw (behind_minus c.before.before.before.before, c.in-Value.is, lt-leb _ _ c.if-below-gt-LOWEST.true)
+returns-then-below-gt-LOWEST c = rw (behind_minus c.before.before.before, c.in-Value.is, lt-leb _ _ c.if-below-gt-LOWEST.true)
 
 pub returns-then-below-eq0 : goal.returns-then-below-eq0
 returns-then-below-eq0 c =
     let b = c.before.before.before in
-    rw (behind_minus b.before.before, b.in-Value.is, le-leb _ _ c.if-below-gt-LOWEST.false, eq-eqb _ _ c.if-below-eq0.true)
+    rw (behind_minus b.before, b.in-Value.is, le-leb _ _ c.if-below-gt-LOWEST.false, eq-eqb _ _ c.if-below-eq0.true)
 
 pub returns-then-word-eq45 : goal.returns-then-word-eq45
 returns-then-word-eq45 c =
     let b = c.before.before.before in
-    rw (behind_minus b.before.before, b.in-Value.is, le-leb _ _ c.if-below-gt-LOWEST.false, ne_eqb _ _ c.if-below-eq0.false)
+    rw (behind_minus b.before, b.in-Value.is, le-leb _ _ c.if-below-gt-LOWEST.false, ne_eqb _ _ c.if-below-eq0.false)
 
 pub returns-in_default-decimal : goal.returns-in_default-decimal
 returns-in_default-decimal c = rw (no_minus c.before.before, c.in_default-decimal.is)
 
 pub returns-then-value-lt-LOWEST : goal.returns-then-value-lt-LOWEST
-returns-then-value-lt-LOWEST c = rw (no_minus c.before.before.before.before, c.in-Value-decimal.is, lt-ltb _ _ c.if-value-lt-LOWEST.true)
+returns-then-value-lt-LOWEST c = rw (no_minus c.before.before.before, c.in-Value-decimal.is, lt-ltb _ _ c.if-value-lt-LOWEST.true)
 
 pub returns : goal.returns
-returns c = rw (no_minus c.before.before.before.before, c.in-Value-decimal.is, le-ltb _ _ c.if-value-lt-LOWEST.false)
+returns c = rw (no_minus c.before.before.before, c.in-Value-decimal.is, le-ltb _ _ c.if-value-lt-LOWEST.false)

@@ -12,7 +12,7 @@ use Rattle.hexadecimal.specs.Hex.{byte_of, written_from}
 use Rattle.hexadecimal.proofs.fill.Given as goal
 
 abbrev pub invariant-loop-count : goal.invariant-loop-count
-invariant-loop-count l = (written_from l.word (l.all - l.count) l.bytes l.count ≡ written_from l.word l.all l.initial.l.bytes 0) × (l.count ≤ l.all)
+invariant-loop-count l = (written_from l.word (l.all - l.count) l.bytes l.count ≡ written_from l.word l.all l.initial.bytes 0) × (l.count ≤ l.all)
 
 abbrev pub decreases-loop-count : goal.decreases-loop-count
 decreases-loop-count l = l.all - l.count

@@ -26,6 +26,7 @@ module _ (word : List ℕ) where
   unfolding is_hex
   long some even more = rw (lt-ltb 0 (length word) (omega arith), eq-eqb _ _ even, lt-leb _ _ more)
 
+  -- past the three tests the digits decide
   digits :
       (length word ≡ 0 → ⊥) → length word % 2 ≡ 0 → length word / 2 ≤ longest →
       all_below (length word) (is_digit_at word) ≡ is_hex word
@@ -41,21 +42,14 @@ returns-then-word-ne0 c = odd _ c.if-word-eq0.false c.if-word-ne0.true
 pub returns-then-word-gt-LONGEST : goal.returns-then-word-gt-LONGEST
 returns-then-word-gt-LONGEST c = long _ c.if-word-eq0.false c.if-word-ne0.false c.if-word-gt-LONGEST.true
 
--- past the three tests the digits decide
-tested :
-    (c : goal.Else-word-gt-LONGEST) →
-    let word = c.args.word.now in all_below (length word) (is_digit_at word) ≡ is_hex word
-tested c = digits _ c.if-word-eq0.false c.if-word-ne0.false c.if-word-gt-LONGEST.false
-
 pub loop-at-init : goal.loop-at-init
 unfolding all_below
 loop-at-init c = search rules
 
 pub returns-then-digit-gt15 : goal.returns-then-digit-gt15
 returns-then-digit-gt15 c =
-    let l = c.before.before.before.before in
     let other = lt-leb _ _ (rw c.digit.ensures.0 at c.if-digit-gt15.true) in
-    sym (all_fails _ _ _ c.loop-at-test.true other) ∙ tested l.before
+    sym (all_fails _ _ _ c.loop-at-test.true other) ∙ digits _ c.if-word-eq0.false c.if-word-ne0.false c.if-word-gt-LONGEST.false
 
 pub loop-at-preserved : goal.loop-at-preserved
 loop-at-preserved c =
@@ -65,4 +59,4 @@ loop-at-preserved c =
 pub returns : goal.returns
 returns c =
     let l = c.loop-at in
-    sym (all_ends _ l.invariant.0 l.invariant.1 c.loop-at-test.false) ∙ tested c.before.before
+    sym (all_ends _ l.invariant.0 l.invariant.1 c.loop-at-test.false) ∙ digits _ c.if-word-eq0.false c.if-word-ne0.false c.if-word-gt-LONGEST.false

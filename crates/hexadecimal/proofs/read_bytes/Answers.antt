@@ -40,19 +40,19 @@ module _ (word l : List ℕ) where
   wrong other unfit = (rw (other, unfit), rw (other, unfit))
 
 pub returns-then-is : goal.returns-then-is
-returns-then-is c = none _ _ (sym c.is.ensures ∙ c.if-is.true)
+returns-then-is c =
+    let told = none _ _ (sym c.is.ensures ∙ c.if-is.true) in record { count = told.0; written = told.1 }
 
 pub fill-requires : goal.fill-requires
 fill-requires c = (room _ (sym c.is_hex.ensures ∙ c.if-is_hex.true), omega arith)
 
 pub returns-then-is_hex : goal.returns-then-is_hex
 returns-then-is_hex c =
-    let h = c.before.before.before in
-    let other = sym h.is.ensures ∙ h.if-is.false in
-    let told = filled _ _ other (sym h.is_hex.ensures ∙ c.if-is_hex.true) in
-    (told.0, c.fill.ensures ∙ told.1)
+    let other = sym c.is.ensures ∙ c.if-is.false in
+    let told = filled _ _ other (sym c.is_hex.ensures ∙ c.if-is_hex.true) in
+    record { count = told.0; written = c.fill.ensures ∙ told.1 }
 
 pub returns : goal.returns
 returns c =
-    let h = c.before in
-    wrong _ _ (sym h.is.ensures ∙ h.if-is.false) (sym h.is_hex.ensures ∙ c.if-is_hex.false)
+    let told = wrong _ _ (sym c.is.ensures ∙ c.if-is.false) (sym c.is_hex.ensures ∙ c.if-is_hex.false) in
+    record { count = told.0; written = told.1 }

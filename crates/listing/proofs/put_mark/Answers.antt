@@ -9,11 +9,9 @@ use Rattle.listing.proofs.put_mark.Goals as goal
 pub returns : goal.returns
 unfolding ascii mark_line
 returns c =
-    let number = c.before.before.before.before.before.before.before in
-    let routine = number.before.before.before.before.before in
-    let fits = routine.ranges in
+    let fits = c.ranges in
     then _ _ _ _ _
     (then _ _ _ _ _
-    (rw (to_z-of_z fits.routine) at routine.put_signed_numbered-named.ensures)
-    (rw (to_z-of_z fits.number) at number.put_signed_numbered-numbered.ensures))
+    (rw (to_z-of_z fits.routine) at c.put_signed_numbered-named.ensures)
+    (rw (to_z-of_z fits.number) at c.put_signed_numbered-numbered.ensures))
     c.put.ensures

@@ -45,7 +45,7 @@ pub loop-at-preserved : goal.loop-at-preserved
 loop-at-preserved c =
     let l = c.loop-at in
     let marks = c.args.marks.now in
-    let f = filled l.out-1 l.end in
+    let f = filled l.out l.end in
     let one : SFits w32 (get_or marks l.at (pos 0)) = search rules in
     let two : SFits w32 (get_or marks (l.at + 1) (pos 0)) = search rules in
     let put = rw (to_z-of_z one, to_z-of_z two) at c.put_mark-end.ensures in (

@@ -21,8 +21,8 @@ use Rattle.listing.specs.Listing.{mark_line, mark_lines}
 use Rattle.listing.proofs.put_marks.Given as goal
 
 abbrev pub invariant-loop-at : goal.invariant-loop-at
-invariant-loop-at l = (with_text (filled l.out-1 l.end) (mark_lines (drop l.at l.initial.l.out-1)) ≡ with_text (filled l.l.marks l.marks) (mark_lines l.initial.l.out-1))
-    × (l.at ≤ length l.initial.l.out-1) × (length l.out-1 ≡ length l.l.marks)
+invariant-loop-at l = (with_text (filled l.out l.end) (mark_lines (drop l.at l.marks)) ≡ with_text (filled l.initial.out l.used) (mark_lines l.marks))
+    × (l.at ≤ length l.marks) × (length l.out ≡ length l.initial.out)
 
 abbrev pub decreases-loop-at : goal.decreases-loop-at
-decreases-loop-at l = length l.initial.l.out-1 - l.at
+decreases-loop-at l = length l.marks - l.at

@@ -7,7 +7,4 @@ use Rattle.listing.proofs.put_refusal.Goals as goal
 
 pub returns : goal.returns
 unfolding ascii refusal_line
-returns c =
-    let place = c.before.before.before.before.before.before.before in
-    let number = place.before.before.before.before.before.before in
-    then _ _ _ _ _ (then _ _ _ _ _ number.put_numbered-numbered.ensures place.put_numbered-placed.ensures) c.put.ensures
+returns c = then _ _ _ _ _ (then _ _ _ _ _ c.put_numbered-numbered.ensures c.put_numbered-placed.ensures) c.put.ensures

@@ -6,6 +6,4 @@ use Rattle.listing.proofs.put_round.Goals as goal
 
 pub returns : goal.returns
 unfolding round_lines
-returns c =
-    let marks = c.before.before in
-    then _ _ _ _ _ marks.put_round_line-end.ensures marks.put_marks.ensures
+returns c = then _ _ _ _ _ c.put_round_line-end.ensures c.put_marks.ensures

@@ -8,9 +8,6 @@ use Rattle.listing.proofs.put_round_line.Goals as goal
 pub returns : goal.returns
 unfolding ascii round_line
 returns c =
-    let marks = c.before.before.before.before.before.before.before in
-    let passes = marks.before.before.before.before.before in
-    let number = passes.before.before.before.before.before in
     then _ _ _ _ _
-    (then _ _ _ _ _ (then _ _ _ _ _ number.put_numbered-numbered.ensures passes.put_numbered-passed.ensures) marks.put_numbered-marked.ensures)
+    (then _ _ _ _ _ (then _ _ _ _ _ c.put_numbered-numbered.ensures c.put_numbered-passed.ensures) c.put_numbered-marked.ensures)
     c.put.ensures

@@ -44,7 +44,7 @@ module _ (text : List ℕ) (from : ℕ) where
   ends n e = rw (e, take_all (length text - from) (drop from text) (simp length-drop (omega arith)), zero-add)
 
 pub returns-then-text-from : goal.returns-then-text-from
-returns-then-text-from c = (omega arith, beyond _ _ c.if-text-from.true)
+returns-then-text-from c = record { kept = omega arith; moved = beyond _ _ c.if-text-from.true }
 
 pub loop-at-init : goal.loop-at-init
 loop-at-init c = (refl, omega arith, refl)
@@ -58,4 +58,4 @@ loop-at-preserved c =
 pub returns : goal.returns
 returns c =
     let a = c.args in
-    (refl, c.loop-at.invariant.0 ∙ ends a.text.now a.from c.loop-at.at (omega arith))
+    record { kept = refl; moved = c.loop-at.invariant.0 ∙ ends a.text.now a.from c.loop-at.at (omega arith) }

@@ -17,7 +17,7 @@ abbrev pub moved : List ℕ → ℕ → ℕ → List ℕ
 moved text from n = paste text 0 (drop from text) n
 
 abbrev pub invariant-loop-at : goal.invariant-loop-at
-invariant-loop-at l = (l.text ≡ moved l.l.count l.count l.at) × (l.at ≤ length l.l.count - l.count) × (length l.text ≡ length l.l.count)
+invariant-loop-at l = (l.text ≡ moved l.initial.text l.from l.at) × (l.at ≤ length l.initial.text - l.from) × (length l.text ≡ length l.initial.text)
 
 abbrev pub decreases-loop-at : goal.decreases-loop-at
-decreases-loop-at l = l.initial.l.text - l.at
+decreases-loop-at l = l.initial.count - l.at

@@ -13,7 +13,7 @@ use Rattle.texts.specs.Texts.{filled, with_text}
 use Rattle.texts.proofs.put.Given as goal
 
 abbrev pub invariant-loop-at : goal.invariant-loop-at
-invariant-loop-at l = (with_text (filled l.out l.end) (drop l.at l.initial.l.out) ≡ with_text (filled l.l.l.initial.l.out l.l.initial.l.out) l.initial.l.out) × (l.at ≤ length l.initial.l.out) × (length l.out ≡ length l.l.l.initial.l.out)
+invariant-loop-at l = (with_text (filled l.out l.end) (drop l.at l.text) ≡ with_text (filled l.initial.out l.used) l.text) × (l.at ≤ length l.text) × (length l.out ≡ length l.initial.out)
 
 abbrev pub decreases-loop-at : goal.decreases-loop-at
-decreases-loop-at l = length l.initial.l.out - l.at
+decreases-loop-at l = length l.text - l.at

@@ -28,6 +28,5 @@ fewest k n h f =
 pub returns : goal.returns
 returns c =
     let d = c.hex-count in
-    let s = c.before.before.before.before.before.before.before.before in
-    let text = d.ensures.1.1 ∙ fewest d.result s.args.byte s.ranges.byte.fits d.ensures.1.0 in
+    let text = d.ensures.digits ∙ fewest d.result c.args.byte c.ranges.byte.fits d.ensures.len in
     rw text at c.put.ensures

@@ -43,6 +43,5 @@ fewest (suc (suc k)) n fits f =
 pub returns : goal.returns
 returns c =
     let d = c.decimal-count in
-    let s = c.before.before.before.before.before.before.before.before in
-    let text = d.ensures.1.1 ∙ fewest d.result s.args.n s.ranges.n.fits d.ensures.1.0 in
+    let text = d.ensures.digits ∙ fewest d.result c.args.n c.ranges.n.fits d.ensures.len in
     rw text at c.put.ensures

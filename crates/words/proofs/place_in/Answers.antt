@@ -12,13 +12,10 @@ use borrow.Author.Tests.{lt-ltb, le-ltb}
 use Rattle.numbers.proofs.Left.{more_left}
 use Rattle.words.specs.Words.{space, found_at, is_same, place_from, place_of}
 use Rattle.words.proofs.place_in.Goals as goal
+use Rattle.words.proofs.place_in.Invariants.{search_from}
 
 module _ (names word : List ℕ) where
-  -- the search from name k on, which begins at place i; each name before it has taken one of the turns
-  abbrev search_from : ℕ → ℕ → ℕ
-  search_from k i = place_from names word (length names - k) k i
-
-  begins : search_from 0 0 ≡ place_of names word
+  begins : search_from names word 0 0 ≡ place_of names word
   unfolding place_of
   begins = rw (sub-zero (length names))
 
@@ -35,11 +32,11 @@ module _ (names word : List ℕ) where
     name_left : k < length names
     name_left = omega arith
 
-    stops : is_same word name ≡ true → search_from k i ≡ k
+    stops : is_same word name ≡ true → search_from names word k i ≡ k
     unfolding place_from
     stops e = rw (more_left name_left, lt-ltb _ _ within, ← found, e)
 
-    goes : is_same word name ≡ false → search_from k i ≡ search_from (k + 1) (end + 1)
+    goes : is_same word name ≡ false → search_from names word k i ≡ search_from names word (k + 1) (end + 1)
     unfolding place_from
     goes e = rw (more_left name_left, lt-ltb _ _ within, ← found, e)
 

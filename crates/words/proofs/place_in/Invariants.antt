@@ -13,6 +13,10 @@ use Rattle.numbers.proofs.Left.{more_left}
 use Rattle.words.specs.Words.{space, found_at, is_same, place_from, place_of}
 use Rattle.words.proofs.place_in.Given as goal
 
+-- the search from name k on, which begins at place i; each name before it has taken one of the turns
+abbrev pub search_from : List ℕ → List ℕ → ℕ → ℕ → ℕ
+search_from names word k i = place_from names word (length names - k) k i
+
 abbrev pub invariant-loop-at : goal.invariant-loop-at
 invariant-loop-at l = (search_from l.names l.word l.count l.at ≡ place_of l.names l.word) × (l.count ≤ l.at) × (l.at ≤ length l.names + 1)
 
