@@ -7,11 +7,11 @@ BOOKS says how many of the script's books are taken, the first ones; without it 
 plays.in and plays.out. A temporary copy of the repository's crates gets three more modules in the specs of the crate `round`: `Evaluation`
 has a book's verdict and a round computed at less cost, with the laws that they are those of the definitions; `Script` carries commands out;
 and `Plays`, written anew for each group of books, has a claim on each book's verdict and one on each run of commands, proved by evaluation:
-the lines that they answer are the listed ones. `rt dev round` checks them there.
+the lines that they answer are the listed ones. `rt check` of the crate `round` checks them there.
 
-    read     bookVerdict; the other commands take the verdict from this claim, by laws of `Script`, so that it is computed once
+    read     book_verdict; the other commands take the verdict from this claim, by laws of `Script`, so that it is computed once
     show     shown
-    setup    setUp: its verdict; its game is the next one
+    setup    set_up: its verdict; its game is the next one
     order    ordered: its verdict; its game is the next one
     round    answer, with a buffer of zeros: verdict, passes, count of marks, the total that was cut off, marks, the rest of the buffer; its
              game is the next one
@@ -42,255 +42,245 @@ FIELDS += ("R", "E", "C", "listed_len", "tostart_len", "listed", "tostart", "bro
 EVALUATION = """\
 -- The definitions computed at less cost: a part's steps are taken apart one behind the other, each once, where the definitions look for
 -- each from the part's first byte on. Laws say that what comes out is the same.
-use Prim.Native.Nat.{ℕ, zero, suc, _+_, _*_, _/_}
-use native.Mathlib.Omega.{arith}
-use native.Mathlib.Nat.{add-zero}
-use mathlib.Core.Path.{_≡_, refl, sym, _∙_, ap, fun-ext}
-use mathlib.Core.Bool.{_||_, not}
-use mathlib.Core.List.{List, [], _∷_}
-use lib.Dec.{eqb, ltb, leb·zero, leb·suc-zero, leb·suc-suc}
-use lib.ListN.{length, getD, drop}
-use lib.Seq.{getD-drop}
-use Rattle·numbers.specs.Choice.{if_then_else_}
-use Rattle·numbers.specs.Numbers.{halfOf, numberOf}
-use Rattle·kinds.specs.declared.Step.{Step}
-use Rattle·kinds.specs.declared.Step.the-variants as step
-use Rattle·kinds.specs.declared.Counts.{Counts}
-use Rattle·kinds.specs.Steps.{stepBytes, opAt, fieldA, fieldB, fieldN, decoded, stepAt}
-use Rattle·blocks.specs.declared.Walk.{Walk}
-use Rattle·blocks.specs.Blocks.{View, seen, beyond, viewAt, routineOf}
-use Rattle·verdicts.specs.declared.Verdict.{Verdict}
-use Rattle·verdicts.specs.Verdicts.{_orElse_, firstRefusal}
-use Rattle·layout.specs.Layout.{routinesOf, stepsOf, layoutVerdict, countsOf}
-use Rattle·directory.specs.Directory.{firstStep, stepCount, directoryVerdict, routinePart, routineSteps}
-use Rattle·book.specs.Book.{stepVerdict, stepsPart, stepsVerdict, routineWalk}
-use Rattle·book.specs.Book.{nestingOf, pausingOf, nestingVerdict, pausingVerdict, bookVerdict}
-use Rattle·game.specs.declared.Game.{Game}
-use Rattle·game.specs.Game.{continuing, routineAt}
-use Rattle·round·specs.specs.declared.Position.{Position}
-use Rattle·round·specs.specs.declared.Ending.the-variants.{Continued}
-use Rattle·round·specs.specs.State.{State}
-use Rattle·round·specs.specs.Actions.{positionOf, atStart}
-use Rattle·round·specs.specs.Ticks.{tickAt, tick, fresh}
-use Rattle·round·specs.specs.Rounds.{Ticks, follow, ticks, mostTicks, PlayedTurns, notTaken, taken, followedBy, forNextPass}
-use Rattle·round·specs.specs.Rounds.{PlayedRound, passThen, mostPasses, listedIn, ticksOf, turn, pass, instant, round}
+use Rattle.std.specs.Prelude.{ℕ, zero, suc, ◌+◌, ◌*◌, ◌/◌, ◌≡◌, refl, ◌||◌, not, List, [], ◌∷◌, eqb, ltb, length, get_or, drop}
+use Rattle.std.proofs.Common.{arith, add-zero, sym, ◌∙◌, ap, get_or-drop}
+use Rattle.std.proofs.Math.Path.{fun_ext}
+use Rattle.std.proofs.Math.Dec.{leb-zero, leb-suc-zero, leb-suc-suc}
+use Rattle.numbers.specs.Choice.{if◌then◌else◌}
+use Rattle.numbers.specs.Numbers.{half_of, number_of}
+use Rattle.kinds.specs.declared.Step.{Step}
+use Rattle.kinds.specs.declared.Step.TheVariants as step
+use Rattle.kinds.specs.declared.Counts.{Counts}
+use Rattle.kinds.specs.Steps.{step_bytes, op_at, field_a, field_b, field_n, decoded, step_at}
+use Rattle.blocks.specs.declared.Walk.{Walk}
+use Rattle.blocks.specs.Blocks.{View, seen, beyond, view_at, routine_of}
+use Rattle.verdicts.specs.declared.Verdict.{Verdict}
+use Rattle.verdicts.specs.Verdicts.{◌or_else◌, first_refusal}
+use Rattle.layout.specs.Layout.{routines_of, steps_of, layout_verdict, counts_of}
+use Rattle.directory.specs.Directory.{first_step, step_count, directory_verdict, routine_part, routine_steps}
+use Rattle.book.specs.Book.{step_verdict, steps_part, steps_verdict, routine_walk}
+use Rattle.book.specs.Book.{nesting_of, pausing_of, nesting_verdict, pausing_verdict, book_verdict}
+use Rattle.game.specs.declared.Game.{Game}
+use Rattle.game.specs.Game.{continuing, routine_at}
+use Rattle.round.specs.declared.Position.{Position}
+use Rattle.round.specs.declared.Ending.TheVariants.{Continued}
+use Rattle.round.specs.State.{State}
+use Rattle.round.specs.Actions.{position_of, at_start}
+use Rattle.round.specs.Ticks.{tick_at, tick, fresh}
+use Rattle.round.specs.Rounds.{Ticks, follow, ticks, most_ticks, PlayedTurns, not_taken, taken, followed_by, for_next_pass}
+use Rattle.round.specs.Rounds.{PlayedRound, pass_then, most_passes, listed_in, ticks_of, turn, pass, instant, round}
 
 -- the step of eight bytes
-abbrev stepOfBytes : Counts → (ℕ → ℕ) → Step
-stepOfBytes counts byte = decoded counts (byte 0) (byte 1) (halfOf (byte 2) (byte 3)) (numberOf (byte 4) (byte 5) (byte 6) (byte 7))
+abbrev step_of_bytes : Counts → (ℕ → ℕ) → Step
+step_of_bytes counts byte = decoded counts (byte 0) (byte 1) (half_of (byte 2) (byte 3)) (number_of (byte 4) (byte 5) (byte 6) (byte 7))
 
 -- the first n steps of a part
-unfoldable pub firstSteps : ℕ → Counts → List ℕ → List Step
-firstSteps zero counts s = []
-firstSteps (suc n) counts s =
-    let first = stepOfBytes counts (λ k. getD s k 0) in
-    let others = firstSteps n counts (drop stepBytes s) in
+unfoldable pub first_steps : ℕ → Counts → List ℕ → List Step
+first_steps zero counts s = []
+first_steps (suc n) counts s =
+    let first = step_of_bytes counts (λ k. get_or s k 0) in
+    let others = first_steps n counts (drop step_bytes s) in
     first ∷ others
 
-byte-behind : (s : List ℕ) (i k : ℕ) → getD (drop stepBytes s) (i * stepBytes + k) 0 ≡ getD s (suc i * stepBytes + k) 0
-byte-behind s i k = let e : stepBytes + (i * stepBytes + k) ≡ suc i * stepBytes + k = omega arith in rw (getD-drop, e)
+byte_behind : (s : List ℕ) (i k : ℕ) → get_or (drop step_bytes s) (i * step_bytes + k) 0 ≡ get_or s (suc i * step_bytes + k) 0
+byte_behind s i k = let e : step_bytes + (i * step_bytes + k) ≡ suc i * step_bytes + k = omega arith in rw (get_or-drop, e)
 
-step-in : (n : ℕ) (counts : Counts) (s : List ℕ) (i : ℕ)
-    → (if ltb i n then stepOfBytes counts (λ k. getD s (i * stepBytes + k) 0) else step.Refused)
-    ≡ getD (firstSteps n counts s) i step.Refused
-unfolding firstSteps
-step-in zero counts s i = rw (leb·suc-zero i)
-step-in (suc n) counts s zero = rw (leb·suc-suc 0 n, leb·zero n)
-step-in (suc n) counts s (suc i) =
-    rw (leb·suc-suc (suc i) n)
-    (sym (ap (λ byte. if ltb i n then stepOfBytes counts byte else step.Refused) (fun-ext (byte-behind s i)))
-    ∙ step-in n counts (drop stepBytes s) i)
+step_in_lem : (n : ℕ) (counts : Counts) (s : List ℕ) (i : ℕ)
+    → (if ltb i n then step_of_bytes counts (λ k. get_or s (i * step_bytes + k) 0) else step.Refused)
+    ≡ get_or (first_steps n counts s) i step.Refused
+unfolding first_steps
+step_in_lem zero counts s i = rw (leb-suc-zero i)
+step_in_lem (suc n) counts s zero = rw (leb-suc-suc 0 n, leb-zero n)
+step_in_lem (suc n) counts s (suc i) =
+    rw (leb-suc-suc (suc i) n)
+    (sym (ap (λ byte. if ltb i n then step_of_bytes counts byte else step.Refused) (fun_ext (byte_behind s i)))
+    ∙ step_in_lem n counts (drop step_bytes s) i)
 
-abbrev allSteps : Counts → List ℕ → List Step
-allSteps counts s = firstSteps (length s / stepBytes) counts s
+abbrev all_steps : Counts → List ℕ → List Step
+all_steps counts s = first_steps (length s / step_bytes) counts s
 
-abbrev stepIn : List Step → ℕ → Step
-stepIn l i = getD l i step.Refused
+abbrev step_in : List Step → ℕ → Step
+step_in l i = get_or l i step.Refused
 
-op-first : (s : List ℕ) (i : ℕ) → opAt s i ≡ getD s (i * stepBytes + 0) 0
-op-first s i = rw (add-zero (i * stepBytes))
+op_first : (s : List ℕ) (i : ℕ) → op_at s i ≡ get_or s (i * step_bytes + 0) 0
+op_first s i = rw (add-zero (i * step_bytes))
 
-step-at : (counts : Counts) (s : List ℕ) → stepAt counts s ≡ stepIn (allSteps counts s)
-unfolding stepAt
-step-at counts s =
-    fun-ext
+step_at_lem : (counts : Counts) (s : List ℕ) → step_at counts s ≡ step_in (all_steps counts s)
+unfolding step_at
+step_at_lem counts s =
+    fun_ext
     (λ i.
     ap
-    (λ op. if ltb i (length s / stepBytes) then decoded counts op (fieldA s i) (fieldB s i) (fieldN s i) else step.Refused)
-    (op-first s i)
-    ∙ step-in (length s / stepBytes) counts s i)
+    (λ op. if ltb i (length s / step_bytes) then decoded counts op (field_a s i) (field_b s i) (field_n s i) else step.Refused)
+    (op_first s i)
+    ∙ step_in_lem (length s / step_bytes) counts s i)
 
 -- the blocks of a routine
-abbrev viewIn : List Step → ℕ → ℕ → View
-viewIn l n p = if ltb p n then seen (stepIn l p) else beyond
+abbrev view_in : List Step → ℕ → ℕ → View
+view_in l n p = if ltb p n then seen (step_in l p) else beyond
 
-view-at : (counts : Counts) (s : List ℕ) (n : ℕ) → viewAt counts s n ≡ viewIn (allSteps counts s) n
-unfolding viewAt
-view-at counts s n = ap {B = ℕ → View} (λ (at : ℕ → Step) p. if ltb p n then seen (at p) else beyond) (step-at counts s)
+view_at_lem : (counts : Counts) (s : List ℕ) (n : ℕ) → view_at counts s n ≡ view_in (all_steps counts s) n
+unfolding view_at
+view_at_lem counts s n = ap {B = ℕ → View} (λ (at : ℕ → Step) p. if ltb p n then seen (at p) else beyond) (step_at_lem counts s)
 
-abbrev walkIn : List ℕ → ℕ → Walk
-walkIn s r = let l = allSteps (countsOf s) (routinePart s r) in routineOf (viewIn l (stepCount s r)) (stepCount s r)
+abbrev walk_in : List ℕ → ℕ → Walk
+walk_in s r = let l = all_steps (counts_of s) (routine_part s r) in routine_of (view_in l (step_count s r)) (step_count s r)
 
-walk-in : (s : List ℕ) (r : ℕ) → routineWalk s r ≡ walkIn s r
-unfolding routineWalk
-walk-in s r = ap (λ at. routineOf at (stepCount s r)) (view-at (countsOf s) (routinePart s r) (stepCount s r))
+walk_in_lem : (s : List ℕ) (r : ℕ) → routine_walk s r ≡ walk_in s r
+unfolding routine_walk
+walk_in_lem s r = ap (λ at. routine_of at (step_count s r)) (view_at_lem (counts_of s) (routine_part s r) (step_count s r))
 
 -- a book's verdict, given what its steps are and how its routines' blocks are read
-abbrev verdictBy : (ℕ → Step) → (ℕ → Walk) → List ℕ → Verdict
-verdictBy at walk s =
-    layoutVerdict s
-    orElse directoryVerdict s
-    orElse firstRefusal (λ i. stepVerdict (at i) i) (stepsOf s) 0
-    orElse firstRefusal (λ r. nestingOf (firstStep s r) (walk r)) (routinesOf s) 0
-    orElse firstRefusal (λ r. pausingOf (firstStep s r) (stepCount s r) (walk r)) (routinesOf s) 0
+abbrev verdict_by : (ℕ → Step) → (ℕ → Walk) → List ℕ → Verdict
+verdict_by at walk s =
+    layout_verdict s
+    or_else directory_verdict s
+    or_else first_refusal (λ i. step_verdict (at i) i) (steps_of s) 0
+    or_else first_refusal (λ r. nesting_of (first_step s r) (walk r)) (routines_of s) 0
+    or_else first_refusal (λ r. pausing_of (first_step s r) (step_count s r) (walk r)) (routines_of s) 0
 
-abbrev verdictIn : List ℕ → Verdict
-verdictIn s = let l = allSteps (countsOf s) (stepsPart s) in verdictBy (stepIn l) (walkIn s) s
+abbrev verdict_in : List ℕ → Verdict
+verdict_in s = let l = all_steps (counts_of s) (steps_part s) in verdict_by (step_in l) (walk_in s) s
 
-pub book-verdict : (s : List ℕ) (v : Verdict) → verdictIn s ≡ v → bookVerdict s ≡ v
-unfolding bookVerdict stepsVerdict nestingVerdict pausingVerdict
-book-verdict s v e =
-    ap (λ at. verdictBy at (routineWalk s) s) (step-at (countsOf s) (stepsPart s))
-    ∙ ap (λ walk. verdictBy (stepIn (allSteps (countsOf s) (stepsPart s))) walk s) (fun-ext (walk-in s))
+pub book_verdict_lem : (s : List ℕ) (v : Verdict) → verdict_in s ≡ v → book_verdict s ≡ v
+unfolding book_verdict steps_verdict nesting_verdict pausing_verdict
+book_verdict_lem s v e =
+    ap (λ at. verdict_by at (routine_walk s) s) (step_at_lem (counts_of s) (steps_part s))
+    ∙ ap (λ walk. verdict_by (step_in (all_steps (counts_of s) (steps_part s))) walk s) (fun_ext (walk_in_lem s))
     ∙ e
 
 -- a round: the definitions of Rounds.antt over what the steps are, and over a turn
-unfoldable pub ticksBy : (ℕ → Step) → ℕ → ℕ → List ℕ → Position → State → Ticks
-ticksBy at zero r steps x s = record { ending = Continued; position = x; state = s; trace = [] }
-ticksBy at (suc n) r steps x s =
-    let t = tickAt r steps x s (at (x .place)) in
-    follow r (x .place) (t .act) (t .events) s (λ p u. ticksBy at n r steps (fresh p) u)
+unfoldable pub ticks_by : (ℕ → Step) → ℕ → ℕ → List ℕ → Position → State → Ticks
+ticks_by at zero r steps x s = record { ending = Continued; position = x; state = s; trace = [] }
+ticks_by at (suc n) r steps x s =
+    let t = tick_at r steps x s (at x.place) in
+    follow r x.place t.act t.events s (λ p u. ticks_by at n r steps (fresh p) u)
 
-ticks-by : (n : ℕ) (counts : Counts) (r : ℕ) (steps : List ℕ) (x : Position) (s : State)
-    → ticks n counts r steps x s ≡ ticksBy (stepAt counts steps) n r steps x s
-unfolding ticks tick ticksBy
-ticks-by zero counts r steps x s = refl
-ticks-by (suc n) counts r steps x s =
-    let t = tickAt r steps x s (stepAt counts steps (x .place)) in
-    ap (follow r (x .place) (t .act) (t .events) s) (fun-ext (λ p. fun-ext (λ u. ticks-by n counts r steps (fresh p) u)))
+ticks_by_lem : (n : ℕ) (counts : Counts) (r : ℕ) (steps : List ℕ) (x : Position) (s : State)
+    → ticks n counts r steps x s ≡ ticks_by (step_at counts steps) n r steps x s
+unfolding ticks tick ticks_by
+ticks_by_lem zero counts r steps x s = refl
+ticks_by_lem (suc n) counts r steps x s =
+    let t = tick_at r steps x s (step_at counts steps x.place) in
+    ap (follow r x.place t.act t.events s) (fun_ext (λ p. fun_ext (λ u. ticks_by_lem n counts r steps (fresh p) u)))
 
-abbrev turnBy : (ℕ → State → Ticks) → ℕ → State → PlayedTurns
-turnBy ticking r s =
-    let x = routineAt (s .game) r in
-    if x .suspended || not (eqb (x .stage) continuing) then notTaken s else taken r (ticking r s)
+abbrev turn_by : (ℕ → State → Ticks) → ℕ → State → PlayedTurns
+turn_by ticking r s =
+    let x = routine_at s.game r in
+    if x.suspended || not (eqb x.stage continuing) then not_taken s else taken r (ticking r s)
 
-abbrev ticksIn : List ℕ → ℕ → State → Ticks
-ticksIn book r s =
-    let steps = routineSteps book r in
-    let l = allSteps (countsOf book) steps in
-    ticksBy (stepIn l) (mostTicks steps) r steps (positionOf (routineAt (s .game) r)) s
+abbrev ticks_in : List ℕ → ℕ → State → Ticks
+ticks_in book r s =
+    let steps = routine_steps book r in
+    let l = all_steps (counts_of book) steps in
+    ticks_by (step_in l) (most_ticks steps) r steps (position_of (routine_at s.game r)) s
 
-ticks-in : (book : List ℕ) (r : ℕ) (s : State) → ticksOf book r s ≡ ticksIn book r s
-ticks-in book r s =
-    let steps = routineSteps book r in
-    let x = positionOf (routineAt (s .game) r) in
-    ticks-by (mostTicks steps) (countsOf book) r steps x s
-    ∙ ap (λ at. ticksBy at (mostTicks steps) r steps x s) (step-at (countsOf book) steps)
+ticks_in_lem : (book : List ℕ) (r : ℕ) (s : State) → ticks_of book r s ≡ ticks_in book r s
+ticks_in_lem book r s =
+    let steps = routine_steps book r in
+    let x = position_of (routine_at s.game r) in
+    ticks_by_lem (most_ticks steps) (counts_of book) r steps x s
+    ∙ ap (λ at. ticks_by at (most_ticks steps) r steps x s) (step_at_lem (counts_of book) steps)
 
-turn-in : (book : List ℕ) → turn book ≡ turnBy (ticksIn book)
+turn_in : (book : List ℕ) → turn book ≡ turn_by (ticks_in book)
 unfolding turn
-turn-in book = ap turnBy (fun-ext (λ r. fun-ext (ticks-in book r)))
+turn_in book = ap turn_by (fun_ext (λ r. fun_ext (ticks_in_lem book r)))
 
 module _ (turning : ℕ → State → PlayedTurns) where
-  unfoldable pub passBy : List ℕ → State → PlayedTurns
-  passBy [] s = record { state = s; trace = []; turns = [] }
-  passBy (r ∷ rs) s =
+  unfoldable pub pass_by : List ℕ → State → PlayedTurns
+  pass_by [] s = record { state = s; trace = []; turns = [] }
+  pass_by (r ∷ rs) s =
       let first = turning r s in
-      followedBy first (passBy rs (first .state))
+      followed_by first (pass_by rs first.state)
 
-  unfoldable pub instantBy : ℕ → List ℕ → State → PlayedRound
-  instantBy zero rs s = record { played = record { state = s; trace = []; turns = [] }; passes = 0 }
-  instantBy (suc n) rs s =
-      let first = passBy rs s in
-      passThen first (instantBy n rs (forNextPass (first .state)))
+  unfoldable pub instant_by : ℕ → List ℕ → State → PlayedRound
+  instant_by zero rs s = record { played = record { state = s; trace = []; turns = [] }; passes = 0 }
+  instant_by (suc n) rs s =
+      let first = pass_by rs s in
+      pass_then first (instant_by n rs (for_next_pass first.state))
 
-pass-by : (book rs : List ℕ) (s : State) → pass book rs s ≡ passBy (turn book) rs s
-unfolding pass passBy
-pass-by book [] s = refl
-pass-by book (r ∷ rs) s = ap (followedBy (turn book r s)) (pass-by book rs (turn book r s .state))
+pass_by_lem : (book rs : List ℕ) (s : State) → pass book rs s ≡ pass_by (turn book) rs s
+unfolding pass pass_by
+pass_by_lem book [] s = refl
+pass_by_lem book (r ∷ rs) s = ap (followed_by (turn book r s)) (pass_by_lem book rs (turn book r s).state)
 
-instant-by : (book : List ℕ) (n : ℕ) (rs : List ℕ) (s : State) → instant book n rs s ≡ instantBy (turn book) n rs s
-unfolding instant instantBy
-instant-by book zero rs s = refl
-instant-by book (suc n) rs s =
-    ap (λ first. passThen first (instant book n rs (forNextPass (first .state)))) (pass-by book rs s)
-    ∙ ap (passThen (passBy (turn book) rs s)) (instant-by book n rs (forNextPass (passBy (turn book) rs s .state)))
+instant_by_lem : (book : List ℕ) (n : ℕ) (rs : List ℕ) (s : State) → instant book n rs s ≡ instant_by (turn book) n rs s
+unfolding instant instant_by
+instant_by_lem book zero rs s = refl
+instant_by_lem book (suc n) rs s =
+    ap (λ first. pass_then first (instant book n rs (for_next_pass first.state))) (pass_by_lem book rs s)
+    ∙ ap (pass_then (pass_by (turn book) rs s)) (instant_by_lem book n rs (for_next_pass (pass_by (turn book) rs s).state))
 
-abbrev pub roundIn : List ℕ → Game → PlayedRound
-roundIn book g = instantBy (turnBy (ticksIn book)) mostPasses (listedIn g) (atStart g)
+abbrev pub round_in : List ℕ → Game → PlayedRound
+round_in book g = instant_by (turn_by (ticks_in book)) most_passes (listed_in g) (at_start g)
 
-pub round-in : (book : List ℕ) (g : Game) → round book g ≡ roundIn book g
+pub round_in_lem : (book : List ℕ) (g : Game) → round book g ≡ round_in book g
 unfolding round
-round-in book g =
-    instant-by book mostPasses (listedIn g) (atStart g)
-    ∙ ap (λ turning. instantBy turning mostPasses (listedIn g) (atStart g)) (turn-in book)
+round_in_lem book g =
+    instant_by_lem book most_passes (listed_in g) (at_start g)
+    ∙ ap (λ turning. instant_by turning most_passes (listed_in g) (at_start g)) (turn_in book)
 """
 
 SCRIPT = """\
 -- Scripts of plays: each command carried out by the definitions, with the lines of numbers that it answers.
-use Prim.Native.Nat.{ℕ, zero, suc, _+_, _*_}
-use mathlib.Core.Path.{_≡_, refl, ap}
-use mathlib.Core.Bool.{Bool, _&&_}
-use mathlib.Core.List.{List, [], _∷_, _++_, map}
-use lib.Dec.{eqb, ltb}
-use lib.ListN.{set, take, drop, replicate}
-use lib.IntN.{ℤ, pos}
-use Rattle·numbers.specs.Choice.{if_then_else_}
-use Rattle·numbers.specs.Counting.{howMany}
-use Rattle·verdicts.specs.declared.Verdict.{Verdict}
-use Rattle·verdicts.specs.Verdicts.{_orElse_}
-use Rattle·layout.specs.Layout.{mostRoutines, mostSignals, routinesOf, countsOf}
-use Rattle·directory.specs.Directory.{routineSteps}
-use Rattle·book.specs.Book.{bookVerdict, shown}
-use Rattle·game.specs.declared.Routine.{Routine}
-use Rattle·lines.specs.declared.Line.{Line}
-use Rattle·game.specs.declared.Game.{Game}
-use Rattle·lines.specs.Lines.{entriesOf}
-use Rattle·game.specs.Game.{blankGame, routineAt, isBroadcast, withCounter}
-use Rattle·setup.specs.SetUp.{newGame, setUp}
-use Rattle·orders.specs.Orders.{numberVerdict, orderVerdict, obeyed, ordered}
-use Rattle·round·specs.specs.declared.Ending.the-variants.{Ended, Rested, Missed, Continued}
-use Rattle·round·specs.specs.Actions.{atStart}
-use Rattle·game.specs.declared.Outcome.{Outcome}
-use Rattle·game.specs.Outcomes.{unlessRefused}
-use Rattle·fitting.specs.Fitting.{fitVerdict}
-use Rattle·round·specs.specs.declared.Turn.{Turn}
-use Rattle·round·specs.specs.declared.Turn.the-variants.{PassedOver, Took}
-use Rattle·round·specs.specs.Rounds as rounds
-use Rattle·round·specs.specs.Answers.{numbersPerMark, spaceVerdict, numbersVerdict, roundVerdict, Answer, turnedDown, playedOut, answer}
-use Rattle·round·specs.specs.claims.Demand.{isSignalStep, givesSignal, endsRoutine, countSteps}
-use Rattle·round·specs.specs.Evaluation.{roundIn, round-in}
+use Rattle.std.specs.Prelude.{ℕ, zero, suc, ◌+◌, ◌*◌, ◌≡◌, refl, Bool, ◌&&◌, List, [], ◌∷◌, ◌++◌, map, eqb, ltb, set, take, drop, replicate, ℤ, pos}
+use Rattle.std.proofs.Common.{ap}
+use Rattle.numbers.specs.Choice.{if◌then◌else◌}
+use Rattle.numbers.specs.Counting.{how_many}
+use Rattle.verdicts.specs.declared.Verdict.{Verdict}
+use Rattle.verdicts.specs.Verdicts.{◌or_else◌}
+use Rattle.layout.specs.Layout.{most_routines, most_signals, routines_of, counts_of}
+use Rattle.directory.specs.Directory.{routine_steps}
+use Rattle.book.specs.Book.{book_verdict, shown}
+use Rattle.game.specs.declared.Routine.{Routine}
+use Rattle.lines.specs.declared.Line.{Line}
+use Rattle.game.specs.declared.Game.{Game}
+use Rattle.lines.specs.Lines.{entries_of}
+use Rattle.game.specs.Game.{blank_game, routine_at, is_broadcast, with_counter}
+use Rattle.setup.specs.SetUp.{new_game, set_up}
+use Rattle.orders.specs.Orders.{number_verdict, order_verdict, obeyed, ordered}
+use Rattle.round.specs.declared.Ending.TheVariants.{Ended, Rested, Missed, Continued}
+use Rattle.round.specs.Actions.{at_start}
+use Rattle.game.specs.declared.Outcome.{Outcome}
+use Rattle.game.specs.Outcomes.{unless_refused}
+use Rattle.fitting.specs.Fitting.{fit_verdict}
+use Rattle.round.specs.declared.Turn.{Turn}
+use Rattle.round.specs.declared.Turn.TheVariants.{PassedOver, Took}
+use Rattle.round.specs.Rounds as rounds
+use Rattle.round.specs.Answers.{numbers_per_mark, space_verdict, numbers_verdict, round_verdict, Answer, turned_down, played_out, answer}
+use Rattle.round.specs.claims.Demand.{is_signal_step, gives_signal, ends_routine, count_steps}
+use Rattle.round.specs.Evaluation.{round_in, round_in_lem}
 
 -- The calls, given the book's verdict b, which is claimed once for each book, and the round p.
-abbrev shownBy : Verdict → List ℕ → ℕ → List ℕ
-shownBy b s r = if eqb (b .number) 0 && ltb r (routinesOf s) then routineSteps s r else []
+abbrev shown_by : Verdict → List ℕ → ℕ → List ℕ
+shown_by b s r = if eqb b.number 0 && ltb r (routines_of s) then routine_steps s r else []
 
-pub shown-by : (s : List ℕ) (r : ℕ) → shown s r ≡ shownBy (bookVerdict s) s r
+pub shown_by_lem : (s : List ℕ) (r : ℕ) → shown s r ≡ shown_by (book_verdict s) s r
 unfolding shown
-shown-by s r = refl
+shown_by_lem s r = refl
 
-abbrev setUpBy : Verdict → List ℕ → Game → Outcome
-setUpBy b s g = unlessRefused b (newGame (countsOf s)) g
+abbrev set_up_by : Verdict → List ℕ → Game → Outcome
+set_up_by b s g = unless_refused b (new_game (counts_of s)) g
 
-pub set-up-by : (s : List ℕ) (g : Game) → setUp s g ≡ setUpBy (bookVerdict s) s g
-unfolding setUp
-set-up-by s g = refl
+pub set_up_by_lem : (s : List ℕ) (g : Game) → set_up s g ≡ set_up_by (book_verdict s) s g
+unfolding set_up
+set_up_by_lem s g = refl
 
-abbrev orderedBy : Verdict → List ℕ → Game → ℕ → ℕ → Outcome
-orderedBy b s g kind n = unlessRefused (b orElse fitVerdict s g orElse numberVerdict s kind n) (obeyed g kind n) g
+abbrev ordered_by : Verdict → List ℕ → Game → ℕ → ℕ → Outcome
+ordered_by b s g kind n = unless_refused (b or_else fit_verdict s g or_else number_verdict s kind n) (obeyed g kind n) g
 
-pub ordered-by : (s : List ℕ) (g : Game) (kind n : ℕ) → ordered s g kind n ≡ orderedBy (bookVerdict s) s g kind n
-unfolding ordered orderVerdict
-ordered-by s g kind n = refl
+pub ordered_by_lem : (s : List ℕ) (g : Game) (kind n : ℕ) → ordered s g kind n ≡ ordered_by (book_verdict s) s g kind n
+unfolding ordered order_verdict
+ordered_by_lem s g kind n = refl
 
-abbrev answerBy : Verdict → rounds.PlayedRound → List ℕ → Game → List ℤ → Answer
-answerBy b p s g buffer =
-    let v = b orElse fitVerdict s g orElse spaceVerdict s buffer orElse numbersVerdict p in
-    if eqb (v .number) 0 then playedOut v p buffer else turnedDown v g buffer
+abbrev answer_by : Verdict → rounds.PlayedRound → List ℕ → Game → List ℤ → Answer
+answer_by b p s g buffer =
+    let v = b or_else fit_verdict s g or_else space_verdict s buffer or_else numbers_verdict p in
+    if eqb v.number 0 then played_out v p buffer else turned_down v g buffer
 
-pub answer-by : (s : List ℕ) (g : Game) (buffer : List ℤ) → answer s g buffer ≡ answerBy (bookVerdict s) (roundIn s g) s g buffer
-unfolding answer roundVerdict
-answer-by s g buffer = ap (λ p. answerBy (bookVerdict s) p s g buffer) (round-in s g)
+pub answer_by_lem : (s : List ℕ) (g : Game) (buffer : List ℤ) → answer s g buffer ≡ answer_by (book_verdict s) (round_in s g) s g buffer
+unfolding answer round_verdict
+answer_by_lem s g buffer = ap (λ p. answer_by (book_verdict s) p s g buffer) (round_in_lem s g)
 
 -- a field goes by its place among: stage, place, left, susp, begun, tostop, tosuspend, toresume, R, E, C, listed_len, tostart_len,
 -- listed, tostart, broadcast; a counter's content is signed
@@ -313,8 +303,8 @@ pub record Table : Type 0 where
   pub verdict : Verdict
   pub game : Game
   pub last : rounds.PlayedRound
-  pub bookLent : List ℕ
-  pub gameLent : Game
+  pub book_lent : List ℕ
+  pub game_lent : Game
 
 abbrev pub Lines : Type 0
 Lines = List (List ℤ)
@@ -323,210 +313,206 @@ pub record Done : Type 0 where
   pub lines : Lines
   pub table : Table
 
-abbrev withBook : Table → List ℕ → Verdict → Table
-withBook t s b = record { book = s; verdict = b; game = t .game; last = t .last; bookLent = t .bookLent; gameLent = t .gameLent }
+abbrev with_book : Table → List ℕ → Verdict → Table
+with_book t s b = record { book = s; verdict = b; game = t.game; last = t.last; book_lent = t.book_lent; game_lent = t.game_lent }
 
-abbrev withGame : Table → Game → Table
-withGame t g = record { book = t .book; verdict = t .verdict; game = g; last = t .last; bookLent = t .bookLent; gameLent = t .gameLent }
+abbrev with_game : Table → Game → Table
+with_game t g = record { book = t.book; verdict = t.verdict; game = g; last = t.last; book_lent = t.book_lent; game_lent = t.game_lent }
 
 abbrev line : List ℕ → List ℤ
 line = map pos
 
-abbrev verdictLine : Verdict → List ℕ
-verdictLine v = v .number ∷ v .place ∷ []
+abbrev verdict_line : Verdict → List ℕ
+verdict_line v = v.number ∷ v.place ∷ []
 
 abbrev flag : Bool → ℕ
 flag b = if b then 1 else 0
 
 -- a field overwritten
-abbrev pokedRoutine : ℕ → ℕ → Routine → Routine
-pokedRoutine field v x =
+abbrev poked_routine : ℕ → ℕ → Routine → Routine
+poked_routine field v x =
     record {
-      stage = if eqb field 0 then v else x .stage;
-      place = if eqb field 1 then v else x .place;
-      left = if eqb field 2 then v else x .left;
-      suspended = if eqb field 3 then eqb v 1 else x .suspended;
-      begun = if eqb field 4 then eqb v 1 else x .begun;
-      stopping = if eqb field 5 then eqb v 1 else x .stopping;
-      suspending = if eqb field 6 then eqb v 1 else x .suspending;
-      resuming = if eqb field 7 then eqb v 1 else x .resuming;
+      stage = if eqb field 0 then v else x.stage;
+      place = if eqb field 1 then v else x.place;
+      left = if eqb field 2 then v else x.left;
+      suspended = if eqb field 3 then eqb v 1 else x.suspended;
+      begun = if eqb field 4 then eqb v 1 else x.begun;
+      stopping = if eqb field 5 then eqb v 1 else x.stopping;
+      suspending = if eqb field 6 then eqb v 1 else x.suspending;
+      resuming = if eqb field 7 then eqb v 1 else x.resuming;
     }
 
-abbrev pokedLine : Bool → Bool → ℕ → ℕ → Line → Line
-pokedLine size item i v l = record { items = if item then set (l .items) i v else l .items; len = if size then v else l .len }
+abbrev poked_line : Bool → Bool → ℕ → ℕ → Line → Line
+poked_line size item i v l = record { items = if item then set l.items i v else l.items; len = if size then v else l.len }
 
 abbrev poked : ℕ → ℕ → ℕ → Game → Game
 poked field i v g =
     record {
       counts =
           record {
-            routines = if eqb field 8 then v else g .counts .routines;
-            signals = if eqb field 9 then v else g .counts .signals;
-            counters = if eqb field 10 then v else g .counts .counters;
+            routines = if eqb field 8 then v else g.counts.routines;
+            signals = if eqb field 9 then v else g.counts.signals;
+            counters = if eqb field 10 then v else g.counts.counters;
           };
-      routines = if ltb field 8 then set (g .routines) i (pokedRoutine field v (routineAt g i)) else g .routines;
-      counters = g .counters;
-      listed = pokedLine (eqb field 11) (eqb field 13) i v (g .listed);
-      starting = pokedLine (eqb field 12) (eqb field 14) i v (g .starting);
-      broadcast = if eqb field 15 then set (g .broadcast) i (eqb v 1) else g .broadcast;
+      routines = if ltb field 8 then set g.routines i (poked_routine field v (routine_at g i)) else g.routines;
+      counters = g.counters;
+      listed = poked_line (eqb field 11) (eqb field 13) i v g.listed;
+      starting = poked_line (eqb field 12) (eqb field 14) i v g.starting;
+      broadcast = if eqb field 15 then set g.broadcast i (eqb v 1) else g.broadcast;
     }
 
 -- the first n numbers of a kind, rising
-unfoldable pub numbersBelow : ℕ → (ℕ → Bool) → List ℕ
-numbersBelow zero test = []
-numbersBelow (suc n) test = numbersBelow n test ++ (if test n then n ∷ [] else [])
+unfoldable pub numbers_below : ℕ → (ℕ → Bool) → List ℕ
+numbers_below zero test = []
+numbers_below (suc n) test = numbers_below n test ++ (if test n then n ∷ [] else [])
 
 -- each of the first n routines
-unfoldable pub routineLines : ℕ → Game → Lines
-routineLines zero g = []
-routineLines (suc r) g =
-    let x = routineAt g r in
-    routineLines r g
-    ++ (line (r ∷ x .stage ∷ flag (x .suspended) ∷ x .place ∷ flag (x .begun) ∷ x .left ∷ []) ∷ [])
+unfoldable pub routine_lines : ℕ → Game → Lines
+routine_lines zero g = []
+routine_lines (suc r) g =
+    let x = routine_at g r in
+    routine_lines r g
+    ++ (line (r ∷ x.stage ∷ flag x.suspended ∷ x.place ∷ flag x.begun ∷ x.left ∷ []) ∷ [])
 
 abbrev dumped : Game → Lines
 dumped g =
-    line (g .counts .routines ∷ g .counts .signals ∷ g .counts .counters ∷ [])
-    ∷ routineLines (g .counts .routines) g
-    ++ (take (g .counts .counters) (g .counters)
-    ∷ line (entriesOf (g .listed))
-    ∷ line (entriesOf (g .starting))
-    ∷ line (numbersBelow mostRoutines (λ r. routineAt g r .stopping))
-    ∷ line (numbersBelow mostRoutines (λ r. routineAt g r .suspending))
-    ∷ line (numbersBelow mostRoutines (λ r. routineAt g r .resuming))
-    ∷ line (numbersBelow mostSignals (isBroadcast g))
+    line (g.counts.routines ∷ g.counts.signals ∷ g.counts.counters ∷ [])
+    ∷ routine_lines g.counts.routines g
+    ++ (take g.counts.counters g.counters
+    ∷ line (entries_of g.listed)
+    ∷ line (entries_of g.starting)
+    ∷ line (numbers_below most_routines (λ r. (routine_at g r).stopping))
+    ∷ line (numbers_below most_routines (λ r. (routine_at g r).suspending))
+    ∷ line (numbers_below most_routines (λ r. (routine_at g r).resuming))
+    ∷ line (numbers_below most_signals (is_broadcast g))
     ∷ [])
 
 -- a byte for each turn
-abbrev turnByte : Turn → ℕ
-turnByte PassedOver = 0
-turnByte (Took Ended) = 1
-turnByte (Took Rested) = 2
-turnByte (Took Missed) = 2
-turnByte (Took Continued) = 3
+abbrev turn_byte : Turn → ℕ
+turn_byte PassedOver = 0
+turn_byte (Took Ended) = 1
+turn_byte (Took Rested) = 2
+turn_byte (Took Missed) = 2
+turn_byte (Took Continued) = 3
 
 -- a line for each mark
-unfoldable pub markLines : List ℤ → Lines
-markLines [] = []
-markLines (x ∷ []) = (x ∷ []) ∷ []
-markLines (x ∷ y ∷ rest) = (x ∷ y ∷ []) ∷ markLines rest
+unfoldable pub mark_lines : List ℤ → Lines
+mark_lines [] = []
+mark_lines (x ∷ []) = (x ∷ []) ∷ []
+mark_lines (x ∷ y ∷ rest) = (x ∷ y ∷ []) ∷ mark_lines rest
 
 -- the answer's line, its marks, and the rest of the buffer
-abbrev roundLines : Answer → Lines
-roundLines a =
-    let n = numbersPerMark * a .marks in
-    line (a .verdict .number ∷ a .verdict .place ∷ a .passes ∷ a .marks ∷ a .lost ∷ [])
-    ∷ markLines (take n (a .buffer))
-    ++ (drop n (a .buffer) ∷ [])
+abbrev round_lines : Answer → Lines
+round_lines a =
+    let n = numbers_per_mark * a.marks in
+    line (a.verdict.number ∷ a.verdict.place ∷ a.passes ∷ a.marks ∷ a.lost ∷ [])
+    ∷ mark_lines (take n a.buffer)
+    ++ (drop n a.buffer ∷ [])
 
-abbrev roundDone : Table → rounds.PlayedRound → Answer → Done
-roundDone t p a =
+abbrev round_done : Table → rounds.PlayedRound → Answer → Done
+round_done t p a =
     record {
-      lines = roundLines a;
+      lines = round_lines a;
       table =
-          if eqb (a .verdict .number) 0
+          if eqb a.verdict.number 0
           then record {
-            book = t .book;
-            verdict = t .verdict;
-            game = a .game;
+            book = t.book;
+            verdict = t.verdict;
+            game = a.game;
             last = p;
-            bookLent = t .book;
-            gameLent = t .game;
+            book_lent = t.book;
+            game_lent = t.game;
           }
-          else withGame t (a .game);
+          else with_game t a.game;
     }
 
 abbrev done : Command → Table → Done
-done (Book s b) t = record { lines = []; table = withBook t s b }
-done Read t = record { lines = line (verdictLine (t .verdict)) ∷ []; table = t }
-done (Show r) t = record { lines = line (shownBy (t .verdict) (t .book) r) ∷ []; table = t }
+done (Book s b) t = record { lines = []; table = with_book t s b }
+done Read t = record { lines = line (verdict_line t.verdict) ∷ []; table = t }
+done (Show r) t = record { lines = line (shown_by t.verdict t.book r) ∷ []; table = t }
 done SetUp t =
-    let o = setUpBy (t .verdict) (t .book) (t .game) in
-    record { lines = line (verdictLine (o .verdict)) ∷ []; table = withGame t (o .game) }
+    let o = set_up_by t.verdict t.book t.game in
+    record { lines = line (verdict_line o.verdict) ∷ []; table = with_game t o.game }
 done (Order kind n) t =
-    let o = orderedBy (t .verdict) (t .book) (t .game) kind n in
-    record { lines = line (verdictLine (o .verdict)) ∷ []; table = withGame t (o .game) }
+    let o = ordered_by t.verdict t.book t.game kind n in
+    record { lines = line (verdict_line o.verdict) ∷ []; table = with_game t o.game }
 done (Round size) t =
-    let p = roundIn (t .book) (t .game) in
-    roundDone t p (answerBy (t .verdict) p (t .book) (t .game) (replicate size (pos 0)))
-done (Poke field i v) t = record { lines = []; table = withGame t (poked field i v (t .game)) }
-done (PokeCounter i v) t = record { lines = []; table = withGame t (withCounter (t .game) i v) }
-done Log t = record { lines = line (map turnByte (t .last .played .turns)) ∷ []; table = t }
+    let p = round_in t.book t.game in
+    round_done t p (answer_by t.verdict p t.book t.game (replicate size (pos 0)))
+done (Poke field i v) t = record { lines = []; table = with_game t (poked field i v t.game) }
+done (PokeCounter i v) t = record { lines = []; table = with_game t (with_counter t.game i v) }
+done Log t = record { lines = line (map turn_byte t.last.played.turns) ∷ []; table = t }
 done Facts t =
-    let trace = t .last .played .trace in
-    let listed = entriesOf (atStart (t .gameLent) .game .listed) in
+    let trace = t.last.played.trace in
+    let listed = entries_of (at_start t.game_lent).game.listed in
     record {
       lines =
           line
-          (t .last .passes
-          ∷ howMany givesSignal trace
-          ∷ howMany endsRoutine trace
-          ∷ countSteps (t .bookLent) (isSignalStep (t .bookLent)) listed
+          (t.last.passes
+          ∷ how_many gives_signal trace
+          ∷ how_many ends_routine trace
+          ∷ count_steps t.book_lent (is_signal_step t.book_lent) listed
           ∷ [])
           ∷ [];
       table = t;
     }
-done Dump t = record { lines = dumped (t .game); table = t }
+done Dump t = record { lines = dumped t.game; table = t }
 
 -- the lines of each command in turn
-unfoldable pub playedFrom : List Command → Table → List Lines
-playedFrom [] t = []
-playedFrom (c ∷ cs) t =
+unfoldable pub played_from : List Command → Table → List Lines
+played_from [] t = []
+played_from (c ∷ cs) t =
     let d = done c t in
-    d .lines ∷ playedFrom cs (d .table)
+    d.lines ∷ played_from cs d.table
 
 -- from no book, a game whose fields are all 0, and its round
 abbrev pub played : List Command → List Lines
 played cs =
-    playedFrom cs
+    played_from cs
     (record {
       book = [];
-      verdict = bookVerdict [];
-      game = blankGame;
-      last = roundIn [] blankGame;
-      bookLent = [];
-      gameLent = blankGame;
+      verdict = book_verdict [];
+      game = blank_game;
+      last = round_in [] blank_game;
+      book_lent = [];
+      game_lent = blank_game;
     })
 """
 
 UNFOLDING = """\
-unfolding playedFrom numbersBelow routineLines markLines obeyed written marksIn sumBelow sumOver howMany instantBy passBy allDone
-    ticksBy effectOn tickOf waitsFor fromEnd openingBefore pastPartner atStart each kept appended isThere isEndThere numbersWith newGame
-    blankGame withStart isSized fitsBook routineFits slotFits entryFits lineFits countersFit signalsFit isIn allBelow anyBelow layoutVerdict
-    directoryVerdict routinePart routineOf stepOf blockBy partnerOf firstSteps stepAt decoded rowOf stepsBefore firstRefusal
+unfolding played_from numbers_below routine_lines mark_lines obeyed written marks_in sum_below sum_over how_many instant_by pass_by all_done
+    ticks_by effect_on tick_of waits_for from_end opening_before past_partner at_start each kept appended is_there is_end_there numbers_with new_game
+    blank_game with_start is_sized fits_book routine_fits slot_fits entry_fits line_fits counters_fit signals_fit is_in all_below any_below layout_verdict
+    directory_verdict routine_part routine_of step_of block_by partner_of first_steps step_at decoded row_of steps_before first_refusal
 """
 
 HEADER = """\
 -- Books of a script of plays, and what their commands answer.
-use Prim.Native.Nat.{ℕ}
-use mathlib.Core.Path.{_≡_, refl}
-use mathlib.Core.List.{List, [], _∷_}
-use lib.ListN.{replicate}
-use lib.IntN.{ℤ, pos, negsuc}
-use Rattle·numbers.specs.Counting.{sumOver, howMany, allBelow, anyBelow, sumBelow}
-use Rattle·kinds.specs.Steps.{rowOf, decoded, stepAt}
-use Rattle·blocks.specs.Blocks.{blockBy, stepOf, routineOf}
-use Rattle·partners.specs.Partners.{partnerOf}
-use Rattle·verdicts.specs.Verdicts.{refused, firstRefusal}
-use Rattle·layout.specs.Layout.{layoutVerdict}
-use Rattle·directory.specs.Directory.{stepsBefore, directoryVerdict, routinePart}
-use Rattle·book.specs.Book.{bookVerdict}
-use Rattle·lines.specs.Lines.{isIn, appended}
-use Rattle·game.specs.Game.{blankGame, withStart}
-use Rattle·fitting.specs.Arrays.{entryFits, lineFits, countersFit, signalsFit}
-use Rattle·fitting.specs.Routines.{routineFits, slotFits}
-use Rattle·fitting.specs.Fitting.{isSized, fitsBook}
-use Rattle·setup.specs.SetUp.{newGame}
-use Rattle·orders.specs.Orders.{obeyed}
-use Rattle·round·specs.specs.State.{numbersWith, isEndThere, isThere}
-use Rattle·round·specs.specs.Actions.{kept, each, atStart}
-use Rattle·round·specs.specs.Jumps.{pastPartner, openingBefore, fromEnd}
-use Rattle·round·specs.specs.Ticks.{waitsFor, tickOf, effectOn}
-use Rattle·round·specs.specs.Rounds.{allDone}
-use Rattle·round·specs.specs.Answers.{marksIn, written}
-use Rattle·round·specs.specs.Evaluation.{firstSteps, book-verdict, ticksBy, passBy, instantBy}
-use Rattle·round·specs.specs.Script.{Command, Book, Read, Show, SetUp, Order, Round, Poke, PokeCounter, Log, Facts, Dump, Lines}
-use Rattle·round·specs.specs.Script.{numbersBelow, routineLines, markLines, playedFrom, played}
+use Rattle.std.specs.Prelude.{ℕ, ◌≡◌, refl, List, [], ◌∷◌, replicate, ℤ, pos, negsuc}
+use Rattle.numbers.specs.Counting.{sum_over, how_many, all_below, any_below, sum_below}
+use Rattle.kinds.specs.Steps.{row_of, decoded, step_at}
+use Rattle.blocks.specs.Blocks.{block_by, step_of, routine_of}
+use Rattle.partners.specs.Partners.{partner_of}
+use Rattle.verdicts.specs.Verdicts.{refused, first_refusal}
+use Rattle.layout.specs.Layout.{layout_verdict}
+use Rattle.directory.specs.Directory.{steps_before, directory_verdict, routine_part}
+use Rattle.book.specs.Book.{book_verdict}
+use Rattle.lines.specs.Lines.{is_in, appended}
+use Rattle.game.specs.Game.{blank_game, with_start}
+use Rattle.fitting.specs.Arrays.{entry_fits, line_fits, counters_fit, signals_fit}
+use Rattle.fitting.specs.Routines.{routine_fits, slot_fits}
+use Rattle.fitting.specs.Fitting.{is_sized, fits_book}
+use Rattle.setup.specs.SetUp.{new_game}
+use Rattle.orders.specs.Orders.{obeyed}
+use Rattle.round.specs.State.{numbers_with, is_end_there, is_there}
+use Rattle.round.specs.Actions.{kept, each, at_start}
+use Rattle.round.specs.Jumps.{past_partner, opening_before, from_end}
+use Rattle.round.specs.Ticks.{waits_for, tick_of, effect_on}
+use Rattle.round.specs.Rounds.{all_done}
+use Rattle.round.specs.Answers.{marks_in, written}
+use Rattle.round.specs.Evaluation.{first_steps, book_verdict_lem, ticks_by, pass_by, instant_by}
+use Rattle.round.specs.Script.{Command, Book, Read, Show, SetUp, Order, Round, Poke, PokeCounter, Log, Facts, Dump, Lines}
+use Rattle.round.specs.Script.{numbers_below, routine_lines, mark_lines, played_from, played}
 """
 
 # runs of books to a module
@@ -679,7 +665,7 @@ def book_text(book):
     """A book, and the claim on its verdict."""
     i, wanted = book.number, f"refused {book.verdict}"
     text = f"\nabbrev book{i} : List ℕ\nbook{i} = {joined(book.bytes)}\n"
-    return text + claim(f"read{i}", f"bookVerdict book{i} ≡ {wanted}", f"book-verdict book{i} ({wanted}) refl")
+    return text + claim(f"read{i}", f"book_verdict book{i} ≡ {wanted}", f"book_verdict_lem book{i} ({wanted}) refl")
 
 
 def name_of(run):
@@ -715,8 +701,8 @@ def failing(copy, text):
     modules["Lib"] = root + "".join(f"pub mod {name}\n" for name in modules)
     for name, content in modules.items():
         open(os.path.join(specs, name + ".antt"), "w").write(content)
-    done = subprocess.run(["rt", "dev", "round"], cwd=copy, env=os.environ | {"RT_CUT": "0"}, text=True,
-                          stdout=subprocess.PIPE, stderr=subprocess.STDOUT)
+    done = subprocess.run(["rt", "check"], cwd=os.path.join(copy, "crates/round"), text=True, stdout=subprocess.PIPE,
+                          stderr=subprocess.STDOUT)
     errors = re.findall(r"^(?:.*: )?error: .*", done.stdout, re.M)
     found = [re.fullmatch(r".*/Plays\.antt:\d+:\d+: error: `(\w+)`: (.*)", error) for error in errors]
     told = {error[1]: error[2] for error in found if error and error[1] in names_of(text)}
