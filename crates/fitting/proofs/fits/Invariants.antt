@@ -25,10 +25,3 @@ invariant-loop-at l = (all_below l.at (slot_fits l.book l.game) ≡ true) × (l.
 
 abbrev pub decreases-loop-at : goal.decreases-loop-at
 decreases-loop-at l = most_routines - l.at
-
--- the answer of the call is the contract's test of the counts
-pub counts :
-    (c : goal.After-same_counts) →
-    let args = c.before.before.before.before.before.before.args in
-    c.same_counts.result ≡ same_counts args.t2.counts-1 (counts_of args.book.now)
-counts c = rw c.before.Counts-of.ensures at c.same_counts.ensures

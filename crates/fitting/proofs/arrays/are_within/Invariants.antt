@@ -17,7 +17,7 @@ use Rattle.fitting.proofs.Ranges.{turn_fits, turn_fails, turns_end}
 use Rattle.fitting.proofs.arrays.are_within.Given as goal
 
 abbrev pub invariant-loop-at : goal.invariant-loop-at
-invariant-loop-at l = let within : ℕ → Bool = λ c. is_within (get_or l.values c (pos 0)) (to_z w32 l.low) (to_z w32 l.high) in
+invariant-loop-at l = let within : ℕ → Bool = λ c. is_within (get_or l.values c (pos 0)) l.low l.high in
     (l.fit && all_from l.at l.to within) ≡ all_from l.from l.to within
 
 abbrev pub decreases-loop-at : goal.decreases-loop-at

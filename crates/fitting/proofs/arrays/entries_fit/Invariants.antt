@@ -17,7 +17,7 @@ use Rattle.fitting.proofs.Flagged.{flagged_none, flagged_next, flagged_all, entr
 use Rattle.fitting.proofs.arrays.entries_fit.Given as goal
 
 abbrev pub invariant-loop-at : goal.invariant-loop-at
-invariant-loop-at l = (all_below l.at (entry_fits l.l.initial.seen l.routines) ≡ true) × (l.at ≤ l.l.initial.seen.len) × Flagged l.seen (entries_before l.l.initial.seen l.at) × (length l.seen ≡ byte_limit)
+invariant-loop-at l = (all_below l.at (entry_fits l.line l.routines) ≡ true) × (l.at ≤ l.line.len) × Flagged l.seen (entries_before l.line l.at) × (length l.seen ≡ byte_limit)
 
 abbrev pub decreases-loop-at : goal.decreases-loop-at
-decreases-loop-at l = l.l.initial.seen.len - l.at
+decreases-loop-at l = l.line.len - l.at

@@ -6,17 +6,11 @@ use Rattle.fitting.proofs.slots.left_fits.Goals as goal
 
 pub returns-then-x : goal.returns-then-x
 returns-then-x c =
-    let step = c.before.before in
-    let steps = step.before in
-    let taken = steps.before.before in
     rw (
-      taken.if-x.true,
+      c.if-x.true,
       c.timed_count.ensures,
-      step.step_within-step.ensures,
-      taken.requires,
+      c.step_within-step.ensures,
+      c.requires,
       step_within_lem,
-      steps.routine_steps.ensures.0,
+      c.routine_steps.ensures.bytes,
     )
-
-pub returns-else-x : goal.returns-else-x
-returns-else-x c = rw c.if-x.false
