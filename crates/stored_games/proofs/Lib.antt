@@ -14,3 +14,4 @@ pub mod Parted
 pub mod Back
 pub mod Reasons
 pub mod Keeping
+pub mod Examples

@@ -1,53 +1,62 @@
 -- `loading::game_in` meets its contract: each part of the game is what its call reads. Bytes of the form have counts and lists that the
 -- arrays hold, and all their records.
+use Prim.Native.Nat.{ℕ}
+use mathlib.Core.List.{List}
+use mathlib.Core.Path.{◌≡◌}
+use mathlib.Core.Bool.{true}
+use Rattle.stored_games.specs.declared.Form.{Form}
 use native.Mathlib.Omega.{arith}
 use borrow.Author.Rules.{rules}
-use Rattle.stored_games.specs.Reading.{game_in}
+use Rattle.stored_games.specs.Reading.{game_in, is_formed}
 use Rattle.stored_games.specs.Formed.{Formed}
 use Rattle.stored_games.proofs.Decides.{formed_decides}
 use Rattle.loading.proofs.Inside.{Inside, inside}
 use Rattle.loading.proofs.game_in.Goals as goal
 
 -- the bytes have the form, so their parts are within them
-formed : (c : goal.After-parts_of-parts) → let a = c.args in Formed a.form a.bytes.now
-formed c = (formed_decides _ _).0 c.requires.1
+formed : {f : Form} {s : List ℕ} → is_formed f s ≡ true → Formed f s
+formed h = (formed_decides _ _).0 h
 
-within : (c : goal.After-parts_of-parts) → let a = c.args in Inside a.form a.bytes.now
-within c = inside _ _ (formed c).size
+within : {f : Form} {s : List ℕ} → is_formed f s ≡ true → Inside f s
+within h = inside _ _ (formed h).size
 
 pub routines_in-routines-requires : goal.routines_in-routines-requires
 routines_in-routines-requires c =
-    (c.requires.0, rw c.counts_in-counts.ensures.0 ((formed c).few_routines, (within c).records))
+    let h = c.requires.bytes_value in
+    record {
+      usable = c.requires.usable;
+      count_le_most_routines = rw c.counts_in-counts.ensures.0 ((formed h).few_routines, (within h).records);
+    }
 
 pub counters_in-counters-requires : goal.counters_in-counters-requires
 counters_in-counters-requires c =
-    let p = c.before in rw (p.counts_in-counts.ensures.0, p.parts_of-parts.ensures.0) ((formed p).few_counters, (within p).counters)
+    let h = c.requires.bytes_value in
+    rw (c.counts_in-counts.ensures.0, c.parts_of-parts.ensures.0) ((formed h).few_counters, (within h).counters)
 
 pub line_in-listed-requires : goal.line_in-listed-requires
-line_in-listed-requires c = let p = c.before.before in rw p.parts_of-parts.ensures.0 ((formed p).few_listed, (within p).listed)
+line_in-listed-requires c =
+    let h = c.requires.bytes_value in rw c.parts_of-parts.ensures.0 ((formed h).few_listed, (within h).listed)
 
 pub line_in-starting-requires : goal.line_in-starting-requires
 line_in-starting-requires c =
-    let p = c.before.before.before in rw p.parts_of-parts.ensures.0 ((formed p).few_starting, (within p).starting)
+    let h = c.requires.bytes_value in rw c.parts_of-parts.ensures.0 ((formed h).few_starting, (within h).starting)
 
 pub signals_in-broadcast-requires : goal.signals_in-broadcast-requires
 signals_in-broadcast-requires c =
-    let p = c.before.before.before.before in (
-      rw p.counts_in-counts.ensures.0 (omega (arith, (formed p).few_signals, p.requires.0.signals_kept)),
-      p.parts_of-parts.ensures.1.broadcast,
+    let few = (formed c.requires.bytes_value).few_signals in (
+      rw c.counts_in-counts.ensures.0 (omega (arith, few, c.requires.usable.signals_kept)),
+      c.parts_of-parts.ensures.1.broadcast,
     )
 
 pub returns : goal.returns
 unfolding game_in
 returns c =
-    let b = c.before in
-    let p = b.before.before.before.before in
     rw (
       c.signals_in-broadcast.ensures,
-      b.line_in-starting.ensures,
-      b.line_in-listed.ensures,
-      b.counters_in-counters.ensures,
-      b.routines_in-routines.ensures,
-      p.parts_of-parts.ensures.0,
-      p.counts_in-counts.ensures.0,
+      c.line_in-starting.ensures,
+      c.line_in-listed.ensures,
+      c.counters_in-counters.ensures,
+      c.routines_in-routines.ensures,
+      c.parts_of-parts.ensures.0,
+      c.counts_in-counts.ensures.0,
     )

@@ -22,12 +22,11 @@ none_set s from at i first zero l h =
 
 pub returns-then-byte_at-eq0 : goal.returns-then-byte_at-eq0
 returns-then-byte_at-eq0 c =
-    let t = c.before.before in
-    let a = t.args in
+    let a = c.args in
     record {
       few = omega arith;
       none = λ z. absurd (omega (arith, z));
-      clear = λ i. none_set a.bytes.now a.from a.at i t.if-at-eq0.true (sym c.byte_at.ensures ∙ c.if-byte_at-eq0.true);
+      clear = λ i. none_set a.bytes.now a.from a.at i c.if-at-eq0.true (sym c.byte_at.ensures ∙ c.if-byte_at-eq0.true);
     }
 
 pub returns-then-signal_in : goal.returns-then-signal_in

@@ -13,41 +13,30 @@ use Rattle.numbers.specs.Counting.{all_below, all_from}
 use Rattle.numbers.proofs.Below.{all_holds, all_true, all_fails}
 use Rattle.stored_games.specs.Reading.{signal_in}
 use Rattle.loading.proofs.formed.set_formed.Invariants.{signal_passes}
-use Rattle.loading.proofs.formed.set_formed.Lts as lts
-use Rattle.loading.proofs.formed.set_formed.Reads as reads
-use Rattle.loading.proofs.formed.set_formed.Tie as tie
 use Rattle.loading.proofs.formed.set_formed.Goals as goal
 
-abbrev Start : Type 0
-Start = lts.Start tie.the-claims reads.Pre reads.Post
-
 -- the contract's test of a bit
-abbrev test : Start → ℕ → Bool
-test c = signal_passes c.args.bytes.now c.args.from c.args.signals
-
 pub loop-at-init : goal.loop-at-init
-loop-at-init c = (all_true (test c.before.before) _ (λ i h. rw (lt-ltb i _ h)), search rules)
+loop-at-init c =
+    (all_true (signal_passes c.args.bytes.now c.args.from c.args.signals) _ (λ i h. rw (lt-ltb i _ h)), search rules)
 
 pub returns-then-clear-eq0 : goal.returns-then-clear-eq0
 unfolding all_from
 returns-then-clear-eq0 c =
-    let i = c.before.before in
-    let l = i.loop-at in
+    let l = c.loop-at in
     sym
-    (all_fails (test i.before.before.before.before) _ l.at i.loop-at-test.true
+    (all_fails (signal_passes c.args.bytes.now c.args.from c.args.signals) _ l.at c.loop-at-test.true
     (rw (le-ltb l.at _ l.invariant.1, c.clear_from-clear.ensures.none c.if-clear-eq0.true)))
 
 pub loop-at-preserved : goal.loop-at-preserved
 loop-at-preserved c =
-    let h = c.before.before.before in
-    let l = h.loop-at in
-    let s = h.before.before.before in
-    let t = test s in
+    let l = c.loop-at in
+    let t = signal_passes c.args.bytes.now c.args.from c.args.signals in
     let clear = c.clear_from-clear.ensures in (
       all_true t _ (λ i below.
           elim (dec_lt i l.at) [
             | yes k ↦ all_holds t l.at l.invariant.0 i k
-            | no k ↦ rw (le-ltb i s.args.signals (omega (arith, l.invariant.1, k)), clear.clear i (omega (arith, k)) below)
+            | no k ↦ rw (le-ltb i c.args.signals (omega (arith, l.invariant.1, k)), clear.clear i (omega (arith, k)) below)
           ]),
       omega (arith, l.invariant.1),
     )
@@ -56,5 +45,5 @@ pub returns : goal.returns
 unfolding all_from
 returns c =
     let l = c.loop-at in
-    let t = test c.before.before.before.before in
+    let t = signal_passes c.args.bytes.now c.args.from c.args.signals in
     sym (all_true t _ (λ i h. all_holds t l.at l.invariant.0 i (omega (arith, h, c.loop-at-test.false))))

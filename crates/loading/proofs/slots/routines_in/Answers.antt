@@ -16,13 +16,6 @@ pub loop-done-init : goal.loop-done-init
 loop-done-init c = (rw c.blank_routine-blank.ensures (slots_none _ _ _), search rules)
 
 -- the next record lies within the bytes
-within :
-    (c : goal.In-loop-done) →
-    let s = c.before.before.before.before in
-    let size = s.args.form.recordsize in
-    game_header_bytes + size * c.loop-done.done + size ≤ length s.args.bytes.now
-within c = let s = c.before.before.before.before in record_within s.args.form s.requires.1.1 c.loop-done-test.true
-
 pub loop-done-preserved : goal.loop-done-preserved
 loop-done-preserved c =
     let l = c.loop-done in
@@ -37,13 +30,13 @@ returns c =
     slots_end _ _ _ l.invariant.0 l.invariant.1 c.loop-done-test.false
 
 pub overflow_mul-from : goal.overflow_mul-from
-overflow_mul-from c = omega (arith, within c)
+overflow_mul-from c = omega (arith, record_within c.args.form c.requires.count_le_most_routines.1 c.loop-done-test.true)
 
 pub overflow_add-from : goal.overflow_add-from
-overflow_add-from c = omega (arith, within c)
+overflow_add-from c = omega (arith, record_within c.args.form c.requires.count_le_most_routines.1 c.loop-done-test.true)
 
 pub overflow_add-to : goal.overflow_add-to
-overflow_add-to c = omega (arith, within c)
+overflow_add-to c = omega (arith, record_within c.args.form c.requires.count_le_most_routines.1 c.loop-done-test.true)
 
 pub slice_bounds-routine_by_record-end : goal.slice_bounds-routine_by_record-end
-slice_bounds-routine_by_record-end c = omega (arith, within c)
+slice_bounds-routine_by_record-end c = omega (arith, record_within c.args.form c.requires.count_le_most_routines.1 c.loop-done-test.true)
