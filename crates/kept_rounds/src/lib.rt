@@ -15,7 +15,7 @@ use game::Game;
 use keeping::{is_kept, kept_game};
 use kept_games::MOST_STORED;
 use layout::MOST_STEPS;
-use playing::{NUMBERS_PER_PAIR, SHORT_MARKS, mark_steps, round};
+use playing::{NUMBERS_PER_PAIR, SHORT_BUFFER as SHORT_MARKS, mark_steps, round};
 use reading::read_book;
 use stored_games::{SHORT_BUFFER, WRONG_FORM, form_1};
 use storing::store_fitting;

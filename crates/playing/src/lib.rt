@@ -34,7 +34,7 @@ const OP_MARK: u8 = 0;
 pub const NUMBERS_PER_PAIR: usize = 2;
 
 // The number of the refusal for want of room for the marks.
-pub const SHORT_MARKS: u32 = 10;
+pub const SHORT_BUFFER: u32 = 10;
 
 // A step gives at most one number in a round, so a book of few steps needs but a small buffer for them.
 const FEW_STEPS: usize = 64;
@@ -194,7 +194,7 @@ pub fn play(book: &[u8], game: Game, marks: &mut [i32]) -> Played
         return turned_down(as_verdict(UNFIT, 0), game);
     }
     if marks.len() < NUMBERS_PER_PAIR * mark_steps(book) {
-        return turned_down(as_verdict(SHORT_MARKS, 0), game);
+        return turned_down(as_verdict(SHORT_BUFFER, 0), game);
     }
     round(book, game, marks)
 }
