@@ -1,3 +1,4 @@
+pub mod Examples
 pub mod Adds
 pub mod After
 pub mod Apart
