@@ -2,3 +2,4 @@ pub mod Longest
 pub mod Front
 pub mod Found
 pub mod Alike
+pub mod Examples

@@ -16,7 +16,6 @@ is_formed-requires c = rw c.form_1.ensures form1_usable
 
 pub returns : goal.returns
 returns c =
-    let e = c.before.before.before in
-    let a = e.args in
-    rw (kept_part a.buffer.now a.length (omega (arith, e.if-buffer-length.false)))
+    let a = c.args in
+    rw (kept_part a.buffer.now a.length (omega (arith, c.if-buffer-length.false)))
     (rw (sub-zero a.length, c.form_1.ensures) at c.is_formed.ensures)

@@ -6,28 +6,20 @@ use borrow.Author.Rules.{rules}
 use lib.ListN.{length}
 use Rattle.stored_games.proofs.Forms.{form1_usable}
 use Rattle.keeping.proofs.Kept.{kept_part, formed_within}
-use Rattle.keeping.proofs.kept_game.Lts as lts
-use Rattle.keeping.proofs.kept_game.Reads as reads
-use Rattle.keeping.proofs.kept_game.Tie as tie
 use Rattle.keeping.proofs.kept_game.Goals as goal
 
-abbrev Start : Type 0
-Start = lts.Start tie.the-claims reads.Pre reads.Post
-
-within : (c : Start) → c.args.length ≤ length c.args.buffer.now
-within c = formed_within c.args.buffer.now c.args.length c.requires
-
 pub slice_bounds-game_in-end : goal.slice_bounds-game_in-end
-slice_bounds-game_in-end c = omega (arith, within c.before.before)
+slice_bounds-game_in-end c = omega (arith, formed_within c.args.buffer.now c.args.length c.requires)
 
 pub game_in-requires : goal.game_in-requires
 game_in-requires c =
-    let s = c.before.before.before in
-    let formed = rw (kept_part s.args.buffer.now s.args.length (within s)) at s.requires in
-    rw (c.form_1.ensures, sub-zero s.args.length) (form1_usable, formed)
+    let a = c.args in
+    let within = formed_within a.buffer.now a.length c.requires in
+    let formed = rw (kept_part a.buffer.now a.length within) at c.requires in
+    rw (c.form_1.ensures, sub-zero a.length) (record { usable = form1_usable; bytes_value = formed })
 
 pub returns : goal.returns
 returns c =
-    let s = c.before.before.before.before in
-    rw (kept_part s.args.buffer.now s.args.length (within s))
-    (rw (sub-zero s.args.length, c.form_1.ensures) at c.game_in.ensures)
+    let a = c.args in
+    let within = formed_within a.buffer.now a.length c.requires in
+    rw (kept_part a.buffer.now a.length within) (rw (sub-zero a.length, c.form_1.ensures) at c.game_in.ensures)

@@ -1,4 +1,5 @@
 -- `keeping::kept_length` meets its contract: the bytes up to the end that the parts give are judged as a kept game of that length.
+use Rattle.stored_games.specs.declared.Parts.{Parts}
 use mathlib.Core.Path.{◌≡◌, ap}
 use borrow.Author.Rules.{rules}
 use borrow.Author.Tests.{eq-eqb, ne_eqb}
@@ -10,19 +11,16 @@ pub parts_of-parts-requires : goal.parts_of-parts-requires
 parts_of-parts-requires c = rw c.form_1.ensures form1_usable
 
 -- the end that the code finds is the definition's
-end : (c : goal.After-parts_of-parts) → c.parts_of-parts.result.end ≡ end_in c.args.buffer.now
-end c = ap (λ p. p.end) (rw c.form_1.ensures at c.parts_of-parts.ensures.0)
-
 pub returns-then-verdict-ne0 : goal.returns-then-verdict-ne0
 unfolding kept_length
 returns-then-verdict-ne0 c =
-    let f = c.before.before in
-    let told = rw (end f.before) at f.kept_verdict-verdict.ensures in
+    let parts = rw c.form_1.ensures at c.parts_of-parts.ensures.0 in
+    let told = rw parts at c.kept_verdict-verdict.ensures in
     (told, rw (ne_eqb _ 0 (rw told at c.if-verdict-ne0.true)))
 
 pub returns : goal.returns
 unfolding kept_length
 returns c =
-    let f = c.before.before in
-    let told = rw (end f.before) at f.kept_verdict-verdict.ensures in
-    (told, rw (eq-eqb _ 0 (rw told at c.if-verdict-ne0.false)) (end f.before))
+    let parts = rw c.form_1.ensures at c.parts_of-parts.ensures.0 in
+    let told = rw parts at c.kept_verdict-verdict.ensures in
+    (told, rw (eq-eqb _ 0 (rw told at c.if-verdict-ne0.false)) (ap (λ (p : Parts). p.end) parts))

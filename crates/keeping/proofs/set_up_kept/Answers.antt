@@ -1,4 +1,7 @@
 -- `keeping::set_up_kept` meets its contract: a refused book is refused in storing too, and the game that is set up for any other fits it.
+use Prim.Native.Nat.{ℕ}
+use mathlib.Core.List.{List}
+use Rattle.game.specs.declared.Outcome.{Outcome}
 use mathlib.Core.Path.{◌≡◌, sym, ap, ◌∙◌}
 use borrow.Author.Rules.{rules}
 use Rattle.verdicts.specs.declared.Verdict.{Verdict}
@@ -10,43 +13,31 @@ use Rattle.setup.specs.SetUp.{set_up}
 use Rattle.stored_games.proofs.Forms.{form1_usable}
 use Rattle.storing.proofs.Answers.{book_refuses}
 use Rattle.kept_games.specs.Kept.{set_up_kept}
-use Rattle.keeping.proofs.set_up_kept.Lts as lts
-use Rattle.keeping.proofs.set_up_kept.Reads as reads
-use Rattle.keeping.proofs.set_up_kept.Tie as tie
 use Rattle.keeping.proofs.set_up_kept.Goals as goal
 
-abbrev After-set_up-given : Type 0
-After-set_up-given = lts.After-set_up tie.the-claims reads.Pre reads.Post
-
-abbrev Start : Type 0
-Start = lts.Start tie.the-claims reads.Pre reads.Post
-
-abbrev start : After-set_up-given → Start
-start c = c.before.before.before.before
-
-given : (c : After-set_up-given) → c.set_up-given.result ≡ set_up (start c).args.book.now blank_game
-given c = rw c.blank_game.ensures at c.set_up-given.ensures.0
-
-told : (c : After-set_up-given) → c.set_up-given.result.verdict ≡ book_verdict (start c).args.book.now
+-- the verdict of set-up is that on the book
+told : (book : List ℕ) {o : Outcome} → o ≡ set_up book blank_game → o.verdict ≡ book_verdict book
 unfolding set_up
-told c = ap (λ o. o.verdict) (given c)
+told book given = ap (λ (o : Outcome). o.verdict) given
+
+accepted_book : {book : List ℕ} {v : Verdict} → v ≡ book_verdict book → v.number ≡ 0 → Accepted book
+accepted_book e n = number_accepted _ (ap (λ (v : Verdict). v.number) (sym e) ∙ n)
 
 pub returns-then-told-ne0 : goal.returns-then-told-ne0
 unfolding set_up_kept
-returns-then-told-ne0 c = let s = c.before.before.before in book_refuses _ _ _ _ _ (told s) c.if-told-ne0.true
-
-accepted_book : (c : goal.Else-told-ne0) → Accepted (start c.before.before.before).args.book.now
-accepted_book c = number_accepted _ (ap (λ (v : Verdict). v.number) (sym (told c.before.before.before)) ∙ c.if-told-ne0.false)
+returns-then-told-ne0 c =
+    let given = rw c.blank_game.ensures at c.set_up-given.ensures.0 in
+    book_refuses _ _ _ _ _ (told _ given) c.if-told-ne0.true
 
 pub store_fitting-requires : goal.store_fitting-requires
 store_fitting-requires c =
-    let e = c.before.before in
-    let s = e.before.before.before in
-    let a = accepted_book e in
-    rw c.form_1.ensures (form1_usable, (a, s.set_up-given.ensures.1 (told s ∙ (accepted_exactly _).1 a)))
+    let given = rw c.blank_game.ensures at c.set_up-given.ensures.0 in
+    let a = accepted_book (told _ given) c.if-told-ne0.false in
+    let fits = c.set_up-given.ensures.1 (told _ given ∙ (accepted_exactly _).1 a) in
+    rw c.form_1.ensures (record { usable = form1_usable; accepted = (a, fits) })
 
 pub returns : goal.returns
 unfolding set_up_kept
 returns c =
-    let f = c.before.before in
-    rw (f.form_1.ensures, given f.before.before.before.before.before.before) at f.store_fitting.ensures
+    let given = rw c.blank_game.ensures at c.set_up-given.ensures.0 in
+    rw (c.form_1.ensures, given) at c.store_fitting.ensures
