@@ -15,7 +15,8 @@ use Rattle.opening.proofs.Copying.{copied, copy_on, copy_all}
 use Rattle.opening.proofs.finish.Given as goal
 
 abbrev pub invariant-loop-at : goal.invariant-loop-at
-invariant-loop-at l = (l.routines ≡ copied (list_below most_routines (routine_in l.flags l.fields)) l.initial.l.routines l.at) × (l.at ≤ l.all)
+invariant-loop-at l =
+    (l.routines ≡ copied (list_below most_routines (routine_in l.flags l.fields)) l.initial.routines l.at) × (l.at ≤ l.all)
 
 abbrev pub decreases-loop-at : goal.decreases-loop-at
 decreases-loop-at l = l.all - l.at

@@ -6,4 +6,8 @@ pub returns : goal.returns
 returns c =
     let j = c.join-joined.ensures in
     let s = c.settle.ensures in
-    (c.broadcast.ensures, (rw (j.0, j.1) at s.0, rw (j.0, j.1) at s.1))
+    record {
+      flags_after = c.broadcast.ensures;
+      value = rw (j.value, j.fields_after) at s.value;
+      fields_after = rw (j.value, j.fields_after) at s.fields_after;
+    }

@@ -11,7 +11,7 @@ use Rattle.opening.proofs.Copying.{copied, copy_on, copy_all, last_length}
 use Rattle.opening.proofs.starting_line.Given as goal
 
 abbrev pub invariant-loop-at : goal.invariant-loop-at
-invariant-loop-at l = (l.items ≡ copied (last_row starting_row l.fields) l.initial.l.items l.at) × (l.at ≤ l.count)
+invariant-loop-at l = (l.items ≡ copied (last_row starting_row l.fields) l.initial.items l.at) × (l.at ≤ l.count)
 
 abbrev pub decreases-loop-at : goal.decreases-loop-at
 decreases-loop-at l = l.count - l.at

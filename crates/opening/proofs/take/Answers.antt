@@ -4,16 +4,7 @@ use Rattle.opening.proofs.take.Goals as goal
 
 pub returns : goal.returns
 returns c =
-    let b = c.before.before.before.before.before.before.before.before.before in (
-      rw (
-        b.put_flag-3.ensures,
-        b.put_flag-2.ensures,
-        b.is_suspended.ensures,
-        b.put_flag.ensures,
-      ),
-      rw (
-        c.put_field-3.ensures,
-        c.put_field-2.ensures,
-        c.put_field.ensures,
-      ),
-    )
+    record {
+      flags_after = rw (c.put_flag-3.ensures, c.put_flag-2.ensures, c.is_suspended.ensures, c.put_flag.ensures);
+      fields_after = rw (c.put_field-3.ensures, c.put_field-2.ensures, c.put_field.ensures);
+    }

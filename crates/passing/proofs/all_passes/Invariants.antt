@@ -8,7 +8,9 @@ use Rattle.passing.proofs.AllPasses.{Among, pass_asks, ends, goes, no_pass}
 use Rattle.passing.proofs.all_passes.Given as goal
 
 abbrev pub invariant-loop-passes : goal.invariant-loop-passes
-invariant-loop-passes l = Among l.book l.order l.initial.l.counters l.initial.l.flags l.initial.l.fields l.initial.l.given-1 l.initial.l.marks-1 l.initial.l.tally-1 l.counters l.flags l.fields l.given-1 l.marks-1 l.tally-1 l.eoi l.passes
+invariant-loop-passes l =
+    Among l.book l.order l.initial.counters l.initial.flags l.initial.fields l.initial.given l.initial.marks l.initial.tally l.counters
+    l.flags l.fields l.given l.marks l.tally l.eoi l.passes
 
 abbrev pub decreases-loop-passes : goal.decreases-loop-passes
 decreases-loop-passes l = most_passes - l.passes

@@ -10,7 +10,9 @@ use Rattle.passing.proofs.OnePass.{Between, turn_asks, goes_on_lem, pass_none}
 use Rattle.passing.proofs.pass.Given as goal
 
 abbrev pub invariant-loop-at : goal.invariant-loop-at
-invariant-loop-at l = Between l.book l.eoi l.l.initial.l.given-1 l.l.initial.marks-1 l.initial.counters l.initial.l.flags l.initial.l.fields l.initial.l.given-1 l.initial.l.tally-1 l.counters l.flags l.fields l.given-1 l.marks-1 l.tally-1 l.continued l.at
+invariant-loop-at l =
+    Between l.book l.eoi l.initial.counters l.initial.flags l.initial.fields l.initial.given l.initial.marks l.order l.initial.tally
+    l.counters l.flags l.fields l.given l.marks l.tally l.continued l.at
 
 abbrev pub decreases-loop-at : goal.decreases-loop-at
-decreases-loop-at l = l.initial.marks-1 - l.at
+decreases-loop-at l = l.all - l.at

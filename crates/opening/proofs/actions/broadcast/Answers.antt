@@ -12,9 +12,6 @@ use Rattle.opening.specs.Actions.{with_signals}
 use Rattle.opening.proofs.Signals.{signal_on, signal_over}
 use Rattle.opening.proofs.actions.broadcast.Goals as goal
 
-long : (c : goal.Start) → length c.args.t1 ≡ most_signals
-long c = search rules
-
 pub loop-at-init : goal.loop-at-init
 unfolding with_signals
 loop-at-init c = (refl, search rules)
@@ -22,15 +19,17 @@ loop-at-init c = (refl, search rules)
 pub loop-at-preserved : goal.loop-at-preserved
 loop-at-preserved c =
     let l = c.loop-at in
-    let s = c.before.before.before.before in
-    let more = c.loop-at-test.true in (
-      rw (c.put_present.ensures, ← (signal_on s.args.t1 l.flags present_row l.at (omega (arith, long s, more)))) l.invariant.0,
+    let signals = c.args.signals in
+    let more = c.loop-at-test.true in
+    let long : length signals ≡ most_signals = search rules in (
+      rw (c.put_present.ensures, ← (signal_on signals l.flags present_row l.at (omega (arith, long, more)))) l.invariant.0,
       omega (arith, more),
     )
 
 pub returns : goal.returns
 returns c =
     let l = c.loop-at in
-    let s = c.before.before in
-    let over = signal_over s.args.t1 l.flags present_row l.at (omega (arith, long s, c.loop-at-test.false)) in
+    let signals = c.args.signals in
+    let long : length signals ≡ most_signals = search rules in
+    let over = signal_over signals l.flags present_row l.at (omega (arith, long, c.loop-at-test.false)) in
     rw over at l.invariant.0

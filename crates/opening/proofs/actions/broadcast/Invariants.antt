@@ -13,7 +13,8 @@ use Rattle.opening.proofs.Signals.{signal_on, signal_over}
 use Rattle.opening.proofs.actions.broadcast.Given as goal
 
 abbrev pub invariant-loop-at : goal.invariant-loop-at
-invariant-loop-at l = (sets l.flags (present_row + l.at) (drop l.at l.initial.l.flags) ≡ with_signals l.initial.l.flags l.signals) × (l.at ≤ most_signals)
+invariant-loop-at l =
+    (sets l.flags (present_row + l.at) (drop l.at l.signals) ≡ with_signals l.signals l.initial.flags) × (l.at ≤ most_signals)
 
 abbrev pub decreases-loop-at : goal.decreases-loop-at
 decreases-loop-at l = most_signals - l.at

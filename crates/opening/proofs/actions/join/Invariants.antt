@@ -11,9 +11,11 @@ use Rattle.opening.proofs.Loops.{append_on, continue_on, append_over, continue_o
 use Rattle.opening.proofs.actions.join.Given as goal
 
 abbrev pub invariant-loop-at : goal.invariant-loop-at
-invariant-loop-at l = (appended (line_of l.items-1 l.len) (drop l.at (entries_of l.l.initial.l.len)) ≡ appended (line_of l.initial.l.fields l.initial.items-1) (entries_of l.l.initial.l.len))
-    × (continued (drop l.at (entries_of l.l.initial.l.len)) l.fields ≡ continued (entries_of l.l.initial.l.len) l.starting)
-    × (l.at ≤ l.initial.l.len)
+invariant-loop-at l =
+    (appended (line_of l.items l.len) (drop l.at (entries_of l.starting))
+    ≡ appended (line_of l.initial.items l.initial.len) (entries_of l.starting))
+    × (continued (drop l.at (entries_of l.starting)) l.fields ≡ continued (entries_of l.starting) l.initial.fields)
+    × (l.at ≤ l.all)
 
 abbrev pub decreases-loop-at : goal.decreases-loop-at
-decreases-loop-at l = l.initial.l.len - l.at
+decreases-loop-at l = l.all - l.at

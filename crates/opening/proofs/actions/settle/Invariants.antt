@@ -13,9 +13,11 @@ use Rattle.opening.proofs.Loops.{settle_on, line_on, settle_over, line_over}
 use Rattle.opening.proofs.actions.settle.Given as goal
 
 abbrev pub invariant-loop-at : goal.invariant-loop-at
-invariant-loop-at l = (settled l.flags (drop l.at (entries_of l.l.initial.l.len)) l.fields ≡ settled l.flags (entries_of l.l.initial.l.len) l.l.l.initial.l.len)
-    × (settled_line l.flags (drop l.at (entries_of l.l.initial.l.len)) l.fields (line_of l.items-1 l.len) ≡ settled_line l.flags (entries_of l.l.initial.l.len) l.l.l.initial.l.len empty)
-    × (l.at ≤ l.initial.l.len)
+invariant-loop-at l =
+    (settled l.flags (drop l.at (entries_of l.joined)) l.fields ≡ settled l.flags (entries_of l.joined) l.initial.fields)
+    × (settled_line l.flags (drop l.at (entries_of l.joined)) l.fields (line_of l.items l.len)
+    ≡ settled_line l.flags (entries_of l.joined) l.initial.fields empty)
+    × (l.at ≤ l.all)
 
 abbrev pub decreases-loop-at : goal.decreases-loop-at
-decreases-loop-at l = l.initial.l.len - l.at
+decreases-loop-at l = l.all - l.at

@@ -8,16 +8,17 @@ use Rattle.passing.proofs.turns.end_with.Goals as goal
 
 pub returns-in-Ended : goal.returns-in-Ended
 returns-in-Ended c =
-    let e = c.in-Ended.is in (
-      λ g counters fields given eoi. rw (e, c.put_flag.ensures) (ended_held g counters _ fields given _ eoi _),
-      (ap length c.put_flag.ensures ∙ put_length _ _ _ _, refl, refl, refl),
-    )
+    let e = c.in-Ended.is in
+    record {
+      eoi_after = λ g counters fields given eoi. rw (e, c.put_flag.ensures) (ended_held g counters _ fields given _ eoi _);
+      flags_len_unchanged = (ap length c.put_flag.ensures ∙ put_length _ _ _ _, refl, refl, refl);
+    }
 
 pub returns-in-Rested : goal.returns-in-Rested
-returns-in-Rested c = (λ g counters fields given eoi. rw c.in-Rested.is, (refl, refl, refl, refl))
+returns-in-Rested c = record { eoi_after = λ g counters fields given eoi. rw c.in-Rested.is; flags_len_unchanged = (refl, refl, refl, refl) }
 
 pub returns-in-Missed : goal.returns-in-Missed
-returns-in-Missed c = (λ g counters fields given eoi. rw c.in-Missed.is, (refl, refl, refl, refl))
+returns-in-Missed c = record { eoi_after = λ g counters fields given eoi. rw c.in-Missed.is; flags_len_unchanged = (refl, refl, refl, refl) }
 
 pub returns-in-Continued : goal.returns-in-Continued
-returns-in-Continued c = (λ g counters fields given eoi. rw c.in-Continued.is, (refl, refl, refl, refl))
+returns-in-Continued c = record { eoi_after = λ g counters fields given eoi. rw c.in-Continued.is; flags_len_unchanged = (refl, refl, refl, refl) }

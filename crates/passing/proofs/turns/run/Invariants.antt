@@ -13,8 +13,9 @@ use borrow.Author.Rules.{rules}
 use Rattle.passing.proofs.turns.run.Given as goal
 
 abbrev pub invariant-loop-ticks : goal.invariant-loop-ticks
-invariant-loop-ticks l = Inside l.steps l.routine l.eoi l.initial.l.counters l.initial.l.flags l.initial.l.fields l.initial.l.given-1 l.initial.l.marks-1 l.initial.l.tally l.counters l.flags l.fields l.given-1 l.marks-1 l.tally
-    (record { l.place = l.place; l.begun = l.begun; l.left = l.left }) l.ticks
+invariant-loop-ticks l =
+    Inside l.steps l.routine l.eoi l.initial.counters l.initial.flags l.initial.fields l.initial.given l.initial.marks l.initial.tally
+    l.counters l.flags l.fields l.given l.marks l.tally (record { place = l.place; begun = l.begun; left = l.left }) l.ticks
 
 abbrev pub decreases-loop-ticks : goal.decreases-loop-ticks
 decreases-loop-ticks l = l.ticks

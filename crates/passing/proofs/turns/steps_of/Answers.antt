@@ -1,7 +1,10 @@
 -- `turns::steps_of` meets its contract: the numbers of header and entry say where the routine's steps begin and end.
-use Prim.Native.Nat.{◌+◌, ◌*◌}
+use Prim.Native.Nat.{ℕ, ◌+◌, ◌*◌}
 use mathlib.Core.Path.{◌≡◌}
+use mathlib.Core.List.{List}
 use native.Mathlib.Omega.{arith}
+use lib.ListN.{get_or}
+use Rattle.numbers.specs.Numbers.{half_of}
 use Rattle.kinds.specs.Steps.{step_bytes}
 use Rattle.directory.specs.Directory.{step_count, routine_from}
 use Rattle.directory.proofs.Directory.{steps_there}
@@ -10,28 +13,28 @@ use Rattle.passing.proofs.turns.steps_of.Goals as goal
 
 -- where the entry says that the steps begin, and how many bytes they have
 starts :
-    (c : goal.After-half-3) →
-    let h = c.before.before.before in
-    let a = h.args in
-    12 + 4 * h.half.result-1 + 8 * h.half-2.result-1 ≡ routine_from a.book.now a.routine
-starts c = let h = c.before.before.before in rw (h.half.ensures.0, h.half-2.ensures.0)
+    (book : List ℕ) (r : ℕ) {a b : ℕ} → a ≡ half_of (get_or book 0 0) (get_or book 1 0) →
+    b ≡ half_of (get_or book (12 + 4 * r) 0) (get_or book (12 + 4 * r + 1) 0) → 12 + 4 * a + 8 * b ≡ routine_from book r
+starts book r first second = rw (first, second)
 
 sized :
-    (c : goal.After-half-3) →
-    let a = c.args in
-    8 * c.half-3.result-1 ≡ step_bytes * step_count a.book.now a.routine
-sized c =
-    let r = c.args.routine in
+    (book : List ℕ) (r : ℕ) {a : ℕ} → a ≡ half_of (get_or book (12 + 4 * r + 2) 0) (get_or book (12 + 4 * r + 3) 0) →
+    8 * a ≡ step_bytes * step_count book r
+sized book r is =
     let low : 12 + 4 * r + 2 ≡ 14 + 4 * r = omega arith in
     let high : 12 + 4 * r + 3 ≡ 14 + 4 * r + 1 = omega arith in
-    rw (c.half-3.ensures.0, low, high)
+    rw (is, low, high)
 
 pub slice_bounds-result-end : goal.slice_bounds-result-end
 slice_bounds-result-end c =
-    let p = c.requires.1 in
-    omega (arith, rw (← (starts c), ← (sized c)) at p)
+    let a = c.args in
+    let p = c.requires.routine_in_bounds_2 in
+    let from = starts a.book.now a.routine c.half.ensures.0 c.half-2.ensures.0 in
+    let size = sized a.book.now a.routine c.half-3.ensures.0 in
+    omega (arith, rw (← from, ← size) at p)
 
 pub returns : goal.returns
 returns c =
     let a = c.args in
-    steps_there a.book.now a.routine (starts c.before) (sized c.before)
+    steps_there a.book.now a.routine (starts a.book.now a.routine c.half.ensures.0 c.half-2.ensures.0)
+    (sized a.book.now a.routine c.half-3.ensures.0)
