@@ -20,17 +20,11 @@ use Rattle.game.specs.Game.{ended, blank}
 use Rattle.fitting.proofs.Sizes.{length_mapped}
 use Rattle.plays.specs.Plays.{is_over}
 use Rattle.play_listing.proofs.is_over.Invariants.{entry_ended}
-use Rattle.play_listing.proofs.is_over.Lts as lts
-use Rattle.play_listing.proofs.is_over.Reads as reads
-use Rattle.play_listing.proofs.is_over.Tie as tie
 use Rattle.play_listing.proofs.is_over.Goals as goal
-
-abbrev Else-used-ne0 : Type 0
-Else-used-ne0 = lts.Else1 tie.the-claims reads.Pre reads.Post
 
 module _ (g : Game) where
   abbrev Each : Bool → Type 0
-  Each b = all_below (used_of g.listed-1) (entry_ended g.listed-1 g.routines-1) ≡ b
+  Each b = all_below (used_of g.listed) (entry_ended g.listed g.routines) ≡ b
 
   starts : (used_of g.starting ≡ 0 → ⊥) → false ≡ is_over g
   unfolding is_over
@@ -47,28 +41,23 @@ loop-at-init c = search rules
 pub returns-then-used-ne0 : goal.returns-then-used-ne0
 returns-then-used-ne0 c = starts c.args.game (rw c.used.ensures.0 at c.if-used-ne0.true)
 
--- once the first test is passed, none is to start
-none_starts : (c : Else-used-ne0) → used_of c.args.game.starting ≡ 0
-none_starts c = rw c.used.ensures.0 at c.if-used-ne0.false
-
 pub returns-then-routine-ge-MOST_ROUTINES : goal.returns-then-routine-ge-MOST_ROUTINES
 returns-then-routine-ge-MOST_ROUTINES c =
-    let l = c.before.before.before in
-    let first = l.before.before.before.before in
-    let g = first.args.game in
-    let long : length g.routines-1 ≡ most_routines = search (rules, length_mapped) in
-    let entry = item_at g.listed-1 l.loop-at.at in
-    let past : get_or g.routines-1 entry blank ≡ blank = get_or-eq_default g.routines-1 blank {n = entry} (omega arith) in
-    let within : l.loop-at.at < used_of g.listed-1 = rw l.used-all.ensures.0 at c.loop-at-test.true in
-    starts_none g (none_starts first) (all_fails _ _ l.loop-at.at within (rw past))
+    let g = c.args.game in
+    let none = rw c.used.ensures.0 at c.if-used-ne0.false in
+    let at = c.loop-at.at in
+    let long : length g.routines ≡ most_routines = search (rules, length_mapped) in
+    let entry = item_at g.listed at in
+    let past : get_or g.routines entry blank ≡ blank = get_or-eq_default g.routines blank {n = entry} (omega arith) in
+    let within : at < used_of g.listed = rw c.used-all.ensures.0 at c.loop-at-test.true in
+    starts_none g none (all_fails _ _ at within (rw past))
 
 pub returns-then-routines-routine-ne-ENDED : goal.returns-then-routines-routine-ne-ENDED
 returns-then-routines-routine-ne-ENDED c =
-    let l = c.before.before.before.before in
-    let first = l.before.before.before.before in
-    let g = first.args.game in
-    let within : l.loop-at.at < used_of g.listed-1 = rw l.used-all.ensures.0 at c.loop-at-test.true in
-    starts_none g (none_starts first) (all_fails _ _ l.loop-at.at within (ne_eqb _ _ c.if-routines-routine-ne-ENDED.true))
+    let g = c.args.game in
+    let none = rw c.used.ensures.0 at c.if-used-ne0.false in
+    let within : c.loop-at.at < used_of g.listed = rw c.used-all.ensures.0 at c.loop-at-test.true in
+    starts_none g none (all_fails _ _ c.loop-at.at within (ne_eqb _ _ c.if-routines-routine-ne-ENDED.true))
 
 pub loop-at-preserved : goal.loop-at-preserved
 loop-at-preserved c =
@@ -77,8 +66,7 @@ loop-at-preserved c =
 
 pub returns : goal.returns
 returns c =
-    let l = c.before in
-    let first = l.before.before.before.before in
-    let u = l.used-all.ensures.0 in
-    starts_none first.args.game (none_starts first)
-    (all_ends _ l.loop-at.invariant.0 (rw u at l.loop-at.invariant.1) (rw u at c.loop-at-test.false))
+    let l = c.loop-at in
+    let u = c.used-all.ensures.0 in
+    let none = rw c.used.ensures.0 at c.if-used-ne0.false in
+    starts_none c.args.game none (all_ends _ l.invariant.0 (rw u at l.invariant.1) (rw u at c.loop-at-test.false))

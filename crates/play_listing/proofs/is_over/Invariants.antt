@@ -26,7 +26,7 @@ abbrev pub entry_ended : Line → List Routine → ℕ → Bool
 entry_ended listed routines i = eqb (get_or routines (item_at listed i) blank).stage ended
 
 abbrev pub invariant-loop-at : goal.invariant-loop-at
-invariant-loop-at l = (all_below l.at (entry_ended l.listed-1 l.routines-1) ≡ true) × (l.at ≤ l.all)
+invariant-loop-at l = (all_below l.at (entry_ended l.listed l.routines) ≡ true) × (l.at ≤ l.all)
 
 abbrev pub decreases-loop-at : goal.decreases-loop-at
 decreases-loop-at l = l.all - l.at

@@ -7,7 +7,7 @@ use mathlib.Core.Bool.{true, false}
 use native.Mathlib.Omega.{arith}
 use borrow.Author.Rules.{rules}
 use lib.ListN.{length}
-use Rattle.game-1.specs.declared.Game.{Game}
+use Rattle.game.specs.declared.Game.{Game}
 use Rattle.plays.specs.Plays.{is_over}
 use Rattle.texts.specs.Texts.{filled, with_text}
 use Rattle.texts.proofs.Behind.{then}
@@ -25,7 +25,7 @@ module _ (book : List ℕ) (n : ℕ) (g : Game) where
   -- one that is not has those of its next round and of what comes behind it
   goes_on_lem :
       (j k : ℕ) → j ≡ suc k → is_over g ≡ false →
-      lines_from book j n g ≡ lines_of n (next_answer book g) ++ lines_from book k (n + 1) (next_answer book g).game-1
+      lines_from book j n g ≡ lines_of n (next_answer book g) ++ lines_from book k (n + 1) (next_answer book g).game
   unfolding lines_from
   goes_on_lem j k s e = rw (s, e)
 
@@ -37,7 +37,7 @@ unfolding with_text
 returns-then-is_over c =
     let l = c.loop-number in
     let s = c.args in
-    let ended = over s.book.now l.number l.play.game-1 (left l.number) (sym c.is_over.ensures ∙ c.if-is_over.true) in
+    let ended = over s.book.now l.number l.play.game (left l.number) (sym c.is_over.ensures ∙ c.if-is_over.true) in
     rw ended at l.invariant.0
 
 pub loop-number-preserved : goal.loop-number-preserved
@@ -47,9 +47,9 @@ loop-number-preserved c =
     let book = s.book.now in
     let r = c.list_round-play.ensures in
     let goes = sym c.is_over.ensures ∙ c.if-is_over.false in
-    let e = goes_on_lem book l.number l.play.game-1 (left l.number) (left (l.number + 1)) (omega arith) goes in
-    let here = filled l.out-1 l.play.used in
-    let rest = lines_from book (left (l.number + 1)) (l.number + 1) (next_answer book l.play.game-1).game-1 in
+    let e = goes_on_lem book l.number l.play.game (left l.number) (left (l.number + 1)) (omega arith) goes in
+    let here = filled l.out l.play.used in
+    let rest = lines_from book (left (l.number + 1)) (l.number + 1) (next_answer book l.play.game).game in
     (rw r.0 (then here _ _ _ rest r.1 refl ∙ ap (λ (t : List ℕ). with_text here t) (sym e) ∙ l.invariant.0), omega arith, omega arith)
 
 pub returns : goal.returns

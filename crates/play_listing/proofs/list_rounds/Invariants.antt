@@ -7,7 +7,7 @@ use mathlib.Core.Bool.{true, false}
 use native.Mathlib.Omega.{arith}
 use borrow.Author.Rules.{rules}
 use lib.ListN.{length}
-use Rattle.game-1.specs.declared.Game.{Game}
+use Rattle.game.specs.declared.Game.{Game}
 use Rattle.plays.specs.Plays.{is_over}
 use Rattle.texts.specs.Texts.{filled, with_text}
 use Rattle.texts.proofs.Behind.{then}
@@ -19,9 +19,9 @@ abbrev pub left : ℕ → ℕ
 left number = most_rounds + 1 - number
 
 abbrev pub invariant-loop-number : goal.invariant-loop-number
-invariant-loop-number l = (with_text (filled l.out-1 l.play.used) (lines_from l.book (left l.number) l.number l.play.game-1)
-    ≡ with_text (filled l.initial.l.out-1 0) (lines_from l.book most_rounds 1 l.initial.l.play.game-1))
-    × (l.number ≤ most_rounds + 1) × (length l.out-1 ≡ length l.initial.l.out-1)
+invariant-loop-number l = (with_text (filled l.out l.play.used) (lines_from l.book (left l.number) l.number l.play.game)
+    ≡ with_text (filled l.initial.out 0) (lines_from l.book most_rounds 1 l.initial.play.game))
+    × (l.number ≤ most_rounds + 1) × (length l.out ≡ length l.initial.out)
 
 abbrev pub decreases-loop-number : goal.decreases-loop-number
 decreases-loop-number l = left l.number

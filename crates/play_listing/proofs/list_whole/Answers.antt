@@ -9,4 +9,7 @@ pub returns : goal.returns
 returns c =
     let s = c.args in
     let long : longest_listing ≤ length s.out.now = search rules in
-    (c.list_play.ensures, rw (← c.list_play.ensures) at (printed_whole s.book.now s.out.now long))
+    record {
+      result_after = c.list_play.ensures;
+      out_after = rw (← c.list_play.ensures) at (printed_whole s.book.now s.out.now long);
+    }
