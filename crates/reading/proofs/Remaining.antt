@@ -3,11 +3,9 @@
 use Prim.Native.Nat.{ℕ, zero, suc, ◌+◌, ◌-◌, ◌≤◌, ◌<◌, min}
 use mathlib.Core.Path.{◌≡◌, refl, sym, ◌∙◌}
 use mathlib.Core.Bool.{Bool, true, false, ◌||◌, or-false, or-true}
-use mathlib.Core.List.{List, [], ◌∷◌}
+use mathlib.Core.List.{List}
 use native.Mathlib.Numerals.{sub-one}
 use native.Mathlib.Omega.{arith}
-use types.Run.{OneOf, miss}
-use denote.Enum.Declared.{tag_of}
 use lib.IntN.{ℤ}
 use Rattle.kinds.specs.Limits.{step_within}
 use Rattle.kinds.specs.declared.Step.TheVariants as step
@@ -23,7 +21,6 @@ use Rattle.blocks.specs.Blocks.{View, stands, block_step, block_by, step_of}
 use Rattle.reading.specs.declared.readers.Found.{Found}
 use Rattle.reading.specs.declared.readers.Found.TheVariants.{Past, AtElse, AtEnd, Unreadable, Misnested}
 use Rattle.reading.specs.Found.{view_by, Opens, walk_of, Stopped, unclosed_of, held_of, lowered}
-use Rattle.forms.specs.contracts.Form.{the_type as form_type_lem}
 use Rattle.reading.proofs.Views.{view_seen, view_beyond, stands_below}
 use Rattle.reading.proofs.Steps.{NoEnd}
 use Rattle.reading.proofs.Lowered.{lowered_past, lowered_fault}
@@ -48,13 +45,14 @@ opens_none ElseMarker o = absurd o
 opens_none WhileOpening o = refl
 opens_none EndMarker o = absurd o
 
-pub opening : (f : Form) → OneOf (2 ∷ 4 ∷ []) (tag_of form_type_lem f) → Opens f
-opening Plain k = absurd (miss (2 ∷ 4 ∷ []) 0 (tt {0}) k)
-opening Pausing k = absurd (miss (2 ∷ 4 ∷ []) 1 (tt {0}) k)
-opening IfOpening k = tt
-opening ElseMarker k = absurd (miss (2 ∷ 4 ∷ []) 3 (tt {0}) k)
-opening WhileOpening k = tt
-opening EndMarker k = absurd (miss (2 ∷ 4 ∷ []) 5 (tt {0}) k)
+pub opening :
+    (f : Form) → (f ≡ Plain → ⊥) → (f ≡ Pausing → ⊥) → (f ≡ ElseMarker → ⊥) → (f ≡ EndMarker → ⊥) → Opens f
+opening Plain a b c d = absurd (a refl)
+opening Pausing a b c d = absurd (b refl)
+opening IfOpening a b c d = tt
+opening ElseMarker a b c d = absurd (c refl)
+opening WhileOpening a b c d = tt
+opening EndMarker a b c d = absurd (d refl)
 
 pub unclosed_stopped : (at : ℕ → View) (p : ℕ) (r : Found) → Stopped at (unclosed_of r p)
 unclosed_stopped at p (Past q u l) = tt
@@ -136,6 +134,6 @@ module _ (limits : List (List (List ℤ))) (steps : List ℕ) (d : ℕ) where
           walk_of (unclosed_of r p) ≡ left p u l
       left_wrong (Past q v m) k e = wrong (lowered_fault l (own f p) e)
       left_wrong (AtElse q v m) k e = wrong (lowered_fault l (own f p) e)
-      left_wrong (AtEnd q v m) k e = absurd (miss (0 ∷ 1 ∷ 3 ∷ 4 ∷ []) 2 (tt {0}) k)
+      left_wrong (AtEnd q v m) k e = absurd (k q v m refl)
       left_wrong (Unreadable q v m) k e = wrong (lowered_fault l (own f p) e)
       left_wrong (Misnested q v m) k e = wrong (lowered_fault l (own f p) e)

@@ -3,11 +3,8 @@
 use Prim.Native.Nat.{ℕ, zero, suc, ◌+◌, ◌-◌, min}
 use mathlib.Core.Path.{◌≡◌, refl, sym}
 use mathlib.Core.Bool.{Bool, true, false, ◌&&◌}
-use mathlib.Core.List.{[], ◌∷◌}
 use native.Mathlib.Numerals.{sub-one}
 use native.Mathlib.Omega.{arith}
-use types.Run.{OneOf, miss}
-use denote.Enum.Declared.{tag_of}
 use Rattle.numbers.specs.Choice.{if◌then◌else◌}
 use Rattle.forms.specs.declared.Form.{Form}
 use Rattle.forms.specs.declared.Form.TheVariants.{Plain, Pausing, IfOpening, ElseMarker, WhileOpening, EndMarker}
@@ -18,25 +15,27 @@ use Rattle.blocks.specs.Blocks.{View, stands, else_at, and_then, closed, else_by
 use Rattle.reading.specs.declared.readers.Found.{Found}
 use Rattle.reading.specs.declared.readers.Found.TheVariants.{Past, AtElse, AtEnd, Unreadable, Misnested}
 use Rattle.reading.specs.Found.{Opens, walk_of, Stopped, held_of, lowered}
-use Rattle.forms.specs.contracts.Form.{the_type as form_type_lem}
-use Rattle.reading.specs.contracts.readers.Found.{the_type}
 use Rattle.reading.proofs.Lowered.{lowered_past, lowered_fault}
 
 -- what is found is no end
 abbrev pub NoEnd : Found → Type 0
-NoEnd r = OneOf (0 ∷ 1 ∷ 3 ∷ 4 ∷ []) (tag_of the_type r)
+NoEnd r = (q : ℕ) (u : Bool) (l : ℕ) → r ≡ AtEnd q u l → ⊥
+
+-- and no else
+abbrev NoElse : Found → Type 0
+NoElse r = (q : ℕ) (u : Bool) (l : ℕ) → r ≡ AtElse q u l → ⊥
 
 chosen : (low p m : ℕ) {k : ℕ} (u : Bool) → min low m ≡ k → (if u then k else min low p) ≡ min low (if u then m else p)
 chosen low p m true e = sym e
 chosen low p m false e = refl
 
 -- an opening that is no while
-pub is_if : (f : Form) → Opens f → OneOf (0 ∷ 1 ∷ 2 ∷ 3 ∷ 5 ∷ []) (tag_of form_type_lem f) → f ≡ IfOpening
+pub is_if : (f : Form) → Opens f → (f ≡ WhileOpening → ⊥) → f ≡ IfOpening
 is_if Plain o k = absurd o
 is_if Pausing o k = absurd o
 is_if IfOpening o k = refl
 is_if ElseMarker o k = absurd o
-is_if WhileOpening o k = absurd (miss (0 ∷ 1 ∷ 2 ∷ 3 ∷ 5 ∷ []) 4 (tt {0}) k)
+is_if WhileOpening o k = absurd (k refl)
 is_if EndMarker o k = absurd o
 
 module _ (at : ℕ → View) (n : ℕ) (p : ℕ) where
@@ -85,7 +84,7 @@ module _ (at : ℕ → View) (n : ℕ) (p : ℕ) where
     closing_wrong : (r : Found) → NoEnd r → Stopped at r → Wrong closing r
     closing_wrong (Past q u l) k e = λ v m. rw e
     closing_wrong (AtElse q u l) k e = λ v m. rw e
-    closing_wrong (AtEnd q u l) k e = miss (0 ∷ 1 ∷ 3 ∷ 4 ∷ []) 2 (tt {0}) k
+    closing_wrong (AtEnd q u l) k e = k q u l refl
     closing_wrong (Unreadable q u l) k e = tt
     closing_wrong (Misnested q u l) k e = tt
 
@@ -95,11 +94,11 @@ module _ (at : ℕ → View) (n : ℕ) (p : ℕ) where
     behind_first q u l = if else_at (at q) then else_by at n (block_of at n d) p q u l else closed (at q) p q false l
 
     first_wrong :
-        (r : Found) → OneOf (0 ∷ 2 ∷ 3 ∷ 4 ∷ []) (tag_of the_type r) → NoEnd r → Stopped at r →
+        (r : Found) → NoElse r → NoEnd r → Stopped at r →
         Wrong behind_first r
     first_wrong (Past q u l) j k e = λ v m. rw e
-    first_wrong (AtElse q u l) j k e = absurd (miss (0 ∷ 2 ∷ 3 ∷ 4 ∷ []) 1 (tt {0}) j)
-    first_wrong (AtEnd q u l) j k e = miss (0 ∷ 1 ∷ 3 ∷ 4 ∷ []) 2 (tt {0}) k
+    first_wrong (AtElse q u l) j k e = absurd (j q u l refl)
+    first_wrong (AtEnd q u l) j k e = k q u l refl
     first_wrong (Unreadable q u l) j k e = tt
     first_wrong (Misnested q u l) j k e = tt
 
@@ -110,7 +109,7 @@ module _ (at : ℕ → View) (n : ℕ) (p : ℕ) where
         held_wrong low low (block_of at n d (p + 1)) _ r e (closing_wrong (λ u. false) (λ u l. if u then l else p) r o s)
 
     pub if_wrong :
-        (r : Found) → OneOf (0 ∷ 2 ∷ 3 ∷ 4 ∷ []) (tag_of the_type r) → NoEnd r → Stopped at r →
+        (r : Found) → NoElse r → NoEnd r → Stopped at r →
         walk_of r ≡ lowered low (block_of at n d (p + 1)) → held_of p r ≡ lowered low (if_of at n d p)
     if_wrong r j k s e = held_wrong low low (block_of at n d (p + 1)) _ r e (first_wrong r j k s)
 

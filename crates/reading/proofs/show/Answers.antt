@@ -22,34 +22,28 @@ refused_none s r n = rw (ne_eqb _ _ n)
 behind_none : (s : List ℕ) (r : ℕ) → routines_of s ≤ r → is_shown s r ≡ false
 behind_none s r h = rw (le-ltb r (routines_of s) h, and-false)
 
-told : (c : goal.In-Accepted) → (book_verdict c.args.book.now).number ≡ 0
-told c = ap (λ v. v.number) (sym c.read_book-answer.ensures ∙ ap verdict_of c.in-Accepted.is)
-
 pub returns-in_default : goal.returns-in_default
 returns-in_default c =
-    let call = c.before.before in
-    let args = call.args in
-    let wrong = refuses call.read_book-answer.result-1 c.match.keys2 in
+    let wrong = refuses c.read_book-answer.result c.in_default.not-Accepted in
     let none =
-    none_shown _ _ (refused_none args.book.now args.routine (λ z. wrong (ap (λ v. v.number) call.read_book-answer.ensures ∙ z))) in
-    (sym none.0, (refl, omega (arith, none.1)))
+    none_shown _ _ (refused_none c.args.book.now c.args.routine (λ z. wrong (ap (λ v. v.number) c.read_book-answer.ensures ∙ z))) in
+    record { bytes = sym none.0; place = (refl, omega (arith, none.1)) }
 
 pub returns-then-routines-routine : goal.returns-then-routines-routine
 returns-then-routines-routine c =
-    let start = c.before.before.before.before.before.before.before in
-    let behind : routines_of start.args.book.now ≤ start.args.routine =
+    let behind : routines_of c.args.book.now ≤ c.args.routine =
     omega (arith, c.if-routines-routine.true, c.routines.ensures.0) in
-    let none = none_shown _ _ (behind_none start.args.book.now start.args.routine behind) in
-    (sym none.0, (refl, omega (arith, none.1)))
+    let none = none_shown _ _ (behind_none c.args.book.now c.args.routine behind) in
+    record { bytes = sym none.0; place = (refl, omega (arith, none.1)) }
 
 pub returns : goal.returns
 returns c =
-    let start = c.before.before.before.before.before.before.before in
-    let a = number_accepted start.args.book.now (told c.before.before.before) in
-    let h : start.args.routine < routines_of start.args.book.now =
+    let a = number_accepted c.args.book.now (ap (λ v. v.number) (sym c.in-Accepted.ensures)) in
+    let h : c.args.routine < routines_of c.args.book.now =
     omega (arith, c.if-routines-routine.false, c.routines.ensures.0) in
     let begins = routine_start _ a.directed.entries a.directed.total a.laid.offsets.size _ h in
-    let place = c.routine_steps.ensures.1 in (
-      c.routine_steps.ensures.0 ∙ sym (shown_routine _ a _ h),
-      (place.0, rw (shown_from_lem _ a _ h, ← (begins_there _ _ begins)) place.1),
-    )
+    let place = c.routine_steps.ensures.place in
+    record {
+      bytes = c.routine_steps.ensures.bytes ∙ sym (shown_routine _ a _ h);
+      place = (place.0, rw (shown_from_lem _ a _ h, ← (begins_there _ _ begins)) place.1);
+    }

@@ -22,16 +22,7 @@ use Rattle.directory.specs.Directory.{first_step, step_count}
 use Rattle.book.specs.Book.{routine_walk, nesting_of, pausing_of, nesting_at, pausing_at, nesting_verdict, pausing_verdict}
 use Rattle.verdicts.proofs.First.{or_else_clear, or_else_refused, first_begins, first_stops, first_goes, first_ends, first_next}
 use Rattle.reading.proofs.checks.check_blocks.Invariants.{left_to_find}
-use Rattle.reading.proofs.checks.check_blocks.Lts as lts
-use Rattle.reading.proofs.checks.check_blocks.Reads as reads
-use Rattle.reading.proofs.checks.check_blocks.Tie as tie
 use Rattle.reading.proofs.checks.check_blocks.Goals as goal
-
-abbrev After-verdict_of-verdict : Type 0
-After-verdict_of-verdict = lts.After-verdict_of tie.the-claims reads.Pre reads.Post
-
-abbrev At-loop-routine : Type 0
-At-loop-routine = lts.At-loop tie.the-claims reads.Pre reads.Post
 
 -- a routine that nests is told nothing or a 7
 nests_told :
@@ -96,48 +87,37 @@ kept_last (WithoutPause i) = refl
 ends : (s : List ℕ) (all r : ℕ) (kept : BookAnswer) → all ≤ r → verdict_of kept ≡ left_to_find s all r (verdict_of kept)
 ends s all r kept h = rw (first_ends (nesting_at s) all r h, first_ends (pausing_at s) all r h) (sym (kept_last kept))
 
-abbrev book_of : At-loop-routine → List ℕ
-book_of l = l.args.book.now
-
 pub loop-routine-init : goal.loop-routine-init
 loop-routine-init c = (rw (first_begins (nesting_at _) _, first_begins (pausing_at _) _), search rules)
 
 -- a routine that is told 5 or 6 is the answer
 stopped :
-    (c : After-verdict_of-verdict) {k : ℕ} → let book = book_of c.before.before.before.before in
-    c.verdict_of-verdict.result.number ≡ k → (k ≡ 0 → ⊥) → (k ≡ 7 → ⊥) →
-    verdict_of c.check_routine-found.result ≡ (nesting_verdict book or_else pausing_verdict book)
-stopped c e none seven =
-    let call = c.before in
-    let l = call.before.before.before in
-    stops (book_of l) _ _ (verdict_of l.loop-routine.unpaused) call.loop-routine-test.true call.check_routine-found.ensures
-    (ap (λ v. v.number) (sym c.verdict_of-verdict.ensures) ∙ e) none seven
-    ∙ l.loop-routine.invariant.0
-    ∙ whole (book_of l) l.routines-all.ensures.0
+    (s : List ℕ) (all r : ℕ) (kept : Verdict) {v w : Verdict} {k : ℕ} →
+    all ≡ routines_of s → r < all →
+    left_to_find s all r kept ≡ (first_refusal (nesting_at s) all 0 or_else first_refusal (pausing_at s) all 0) →
+    v ≡ (nesting_at s r or_else pausing_at s r) → w ≡ v → w.number ≡ k → (k ≡ 0 → ⊥) → (k ≡ 7 → ⊥) →
+    v ≡ (nesting_verdict s or_else pausing_verdict s)
+stopped s all r kept a h i found same e none seven =
+    stops s all r kept h found (ap (λ v. v.number) (sym same) ∙ e) none seven ∙ i ∙ whole s a
 
 pub returns-then-verdict-eq-WRONG_STEP : goal.returns-then-verdict-eq-WRONG_STEP
-returns-then-verdict-eq-WRONG_STEP c = stopped c.before.before c.if-verdict-eq-WRONG_STEP.true (λ z. omega (arith, z)) (λ z. omega (arith, z))
+returns-then-verdict-eq-WRONG_STEP c =
+    stopped c.args.book.now _ _ (verdict_of c.loop-routine.unpaused) c.routines-all.ensures.0 c.loop-routine-test.true c.loop-routine.invariant.0
+    c.check_routine-found.ensures c.verdict_of-verdict.ensures c.if-verdict-eq-WRONG_STEP.true (λ z. omega (arith, z)) (λ z. omega (arith, z))
 
 pub returns-then-verdict-eq-WRONG_NESTING : goal.returns-then-verdict-eq-WRONG_NESTING
-returns-then-verdict-eq-WRONG_NESTING c = stopped c.before.before.before.before c.if-verdict-eq-WRONG_NESTING.true (λ z. omega (arith, z)) (λ z. omega (arith, z))
+returns-then-verdict-eq-WRONG_NESTING c =
+    stopped c.args.book.now _ _ (verdict_of c.loop-routine.unpaused) c.routines-all.ensures.0 c.loop-routine-test.true c.loop-routine.invariant.0
+    c.check_routine-found.ensures c.verdict_of-verdict.ensures c.if-verdict-eq-WRONG_NESTING.true (λ z. omega (arith, z)) (λ z. omega (arith, z))
 
 pub loop-routine-preserved : goal.loop-routine-preserved
 loop-routine-preserved c =
-    let call = c.before.before.before.before.before.before in
-    let l = call.before.before.before in
     let number = ap (λ v. v.number) c.verdict_of-verdict.ensures in
     let on =
-    goes (book_of l) _ _ (verdict_of l.loop-routine.unpaused) call.loop-routine-test.true call.check_routine-found.ensures
+    goes c.args.book.now _ _ (verdict_of c.loop-routine.unpaused) c.loop-routine-test.true c.check_routine-found.ensures
     (λ z. c.if-verdict-eq-WRONG_STEP.false (number ∙ z)) (λ z. c.if-verdict-eq-WRONG_NESTING.false (number ∙ z)) in
-    (rw c.first_book_answer-unpaused.ensures (on ∙ l.loop-routine.invariant.0), search rules)
+    (rw c.first_book_answer-unpaused.ensures (on ∙ c.loop-routine.invariant.0), search rules)
 
 pub returns : goal.returns
 returns c =
-    let l = c.before in
-    ends (book_of l) _ _ l.loop-routine.unpaused c.loop-routine-test.false ∙ l.loop-routine.invariant.0 ∙ whole (book_of l) l.routines-all.ensures.0
-
-pub check_routine-found-requires : goal.check_routine-found-requires
-check_routine-found-requires c =
-    let limits = c.before.before.before.before in
-    let start = limits.before.before in
-    (limits.limits_in-limits.ensures, (start.requires.0, (start.requires.1, search rules)))
+    ends c.args.book.now _ _ c.loop-routine.unpaused c.loop-routine-test.false ∙ c.loop-routine.invariant.0 ∙ whole c.args.book.now c.routines-all.ensures.0

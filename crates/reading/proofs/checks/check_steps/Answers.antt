@@ -18,7 +18,7 @@ use Rattle.kinds.specs.Limits.{limits_of, step_within}
 use Rattle.kinds.proofs.Limits.{step_within_lem}
 use Rattle.book.specs.Book.{steps_part, step_verdict, steps_verdict}
 use Rattle.book.proofs.Laid.{laid_out}
-use Rattle.verdicts.proofs.First.{first_begins, first_stops, first_goes, first_ends}
+use Rattle.verdicts.proofs.First.{first_stops, first_goes, first_ends}
 use Rattle.numbers.proofs.Parts.{rest_from}
 use Rattle.reading.proofs.checks.check_steps.Invariants.{search_from, told_at}
 use Rattle.reading.proofs.checks.check_steps.Goals as goal
@@ -55,32 +55,18 @@ slice_bounds-part-count c =
     let laid = laid_out _ (ap (λ v. v.number) c.requires) in
     omega (arith, laid.offsets.size, c.steps_from-from.ensures.0)
 
-pub loop-at-init : goal.loop-at-init
-loop-at-init c = (first_begins _ _, search rules)
+pub slice_bounds-part-start : goal.slice_bounds-part-start
+slice_bounds-part-start c = slice_bounds-part-count c
 
 pub returns-in_default : goal.returns-in_default
 returns-in_default c =
-    let call = c.before.before in
-    let l = call.before.before.before in
-    let h = l.before.before in
-    stops _ _ _ _ l.loop-at.invariant.0 _ refl h.steps-all.ensures.0 (rest_from _ h.steps_from-from.ensures.0)
-    call.loop-at-test.true
-    (read_as h.args.book.now _ _ h.limits_in-limits.ensures call.step_within-decoded.ensures
-    ∙ c.in_default.is)
+    let read = read_as c.args.book.now _ _ c.limits_in-limits.ensures c.step_within-decoded.ensures ∙ c.in_default.is in
+    stops _ _ _ _ c.loop-at.invariant.0 _ refl c.steps-all.ensures.0 (rest_from _ c.steps_from-from.ensures.0) c.loop-at-test.true read
 
 pub loop-at-preserved : goal.loop-at-preserved
 loop-at-preserved c =
-    let call = c.before.before in
-    let l = call.before.before.before in
-    let limits = l.before.before.before.before in
-    let read = read_as limits.args.book.now _ _ limits.limits_in-limits.ensures call.step_within-decoded.ensures in
-    (goes _ _ _ _ l.loop-at.invariant.0 call.loop-at-test.true (read ∙ c.in-Kind.is), search rules)
+    let read = read_as c.args.book.now _ _ c.limits_in-limits.ensures c.step_within-decoded.ensures in
+    (goes _ _ _ _ c.loop-at.invariant.0 c.loop-at-test.true (read ∙ c.in-Kind.is), search rules)
 
 pub returns : goal.returns
-returns c =
-    let l = c.before in
-    let h = l.before.before in
-    ends _ _ _ _ l.loop-at.invariant.0 _ refl h.steps-all.ensures.0 (rest_from _ h.steps_from-from.ensures.0) c.loop-at-test.false
-
-pub slice_bounds-part-start : goal.slice_bounds-part-start
-slice_bounds-part-start c = slice_bounds-part-count c
+returns c = ends _ _ _ _ c.loop-at.invariant.0 _ refl c.steps-all.ensures.0 (rest_from _ c.steps_from-from.ensures.0) c.loop-at-test.false

@@ -30,7 +30,7 @@ abbrev pub search_from : Counts → List ℕ → ℕ → ℕ → Verdict
 search_from counts part all i = first_refusal (told_at counts part) (all - i) i
 
 abbrev pub invariant-loop-at : goal.invariant-loop-at
-invariant-loop-at l = (search_from (counts_of l.book) l.part-1 l.all l.at ≡ first_refusal (told_at (counts_of l.book) l.part-1) l.all 0) × (l.at ≤ l.all)
+invariant-loop-at l = (search_from (counts_of l.book) l.part l.all l.at ≡ first_refusal (told_at (counts_of l.book) l.part) l.all 0) × (l.at ≤ l.all)
 
 abbrev pub decreases-loop-at : goal.decreases-loop-at
 decreases-loop-at l = l.all - l.at
