@@ -30,7 +30,7 @@ use Rattle.partners.specs.Partners.{partner_by, partner_of}
 use Rattle.blocks.specs.Parse.{ParsedBlock, empty, more, ParsedStep, plain, pausing, if_only, if_else, loop}
 use Rattle.blocks.proofs.Views.{view_seen, standing_below}
 
--- partnerBy's look at place p, by the form of the step there instead of its op
+-- `partner_by`'s look at place p, by the form of the step there instead of its op
 abbrev pub look_at : Form → (ℕ → ℕ) → ℕ → ℕ → ℕ
 look_at Plain on d p = on d
 look_at Pausing on d p = on d
