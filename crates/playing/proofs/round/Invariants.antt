@@ -12,7 +12,7 @@ use Rattle.playing.proofs.Finished.{holds_game, finished}
 use Rattle.playing.proofs.round.Given as goal
 
 abbrev pub invariant-loop-at : goal.invariant-loop-at
-invariant-loop-at l = Taken l.initial.l.flags-1 l.at l.flags-1 l.fields-1 × (l.at ≤ l.initial.fields-1)
+invariant-loop-at l = Taken l.routines l.at l.flags l.fields × (l.at ≤ l.all)
 
 abbrev pub decreases-loop-at : goal.decreases-loop-at
-decreases-loop-at l = l.initial.fields-1 - l.at
+decreases-loop-at l = l.all - l.at
