@@ -13,7 +13,7 @@ abbrev pub room : ℕ
 room = 3 + most_routines
 
 abbrev pub invariant-loop-used : goal.invariant-loop-used
-invariant-loop-used l = (used ≤ room) × (length l.l.used ≡ room)
+invariant-loop-used l = (l.used ≤ room) × (length l.numbers ≡ room)
 
 abbrev pub decreases-loop-used : goal.decreases-loop-used
-decreases-loop-used l = room - used
+decreases-loop-used l = room - l.used
