@@ -60,6 +60,11 @@ module _ (n : ℕ) (test : ℕ → Bool) where
     pub turn_fails : {next : Bool} → next ≡ false → m < n → test m ≡ false → (next && all_from (m + 1) n test) ≡ answer
     turn_fails e l h = rw e (rw (from_fails m l h, and-false) at so_far)
 
+    pub turn :
+        {next : Bool} → m < n → (test m ≡ true → next ≡ fits) → (test m ≡ false → next ≡ false) →
+        (next && all_from (m + 1) n test) ≡ answer
+    turn l p q = by_flag (test m) (λ t. turn_fits (p t) t) (λ f. turn_fails (q f) l f)
+
     pub turns_end : n ≤ m → fits ≡ answer
     turns_end l = rw (from_ends m l, and-true) at so_far
 

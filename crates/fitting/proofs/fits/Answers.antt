@@ -1,7 +1,7 @@
 -- `fitting::fits` meets its contract. Each test of the code is one of the contract, in the same order; the flags that the lists leave tell
 -- which routines are in them. The invariant: every slot before `at` fits.
 -- The arrays of the lent game are as long as their types say.
-use Prim.Native.Nat.{ℕ, ◌<◌, ◌≤◌}
+use Prim.Native.Nat.{ℕ, ◌<◌}
 use mathlib.Core.Path.{◌≡◌, refl, sym, subst, ◌∙◌}
 use mathlib.Core.Bool.{Bool, true, false, ◌&&◌}
 use mathlib.Core.List.{List}
