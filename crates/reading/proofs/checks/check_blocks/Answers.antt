@@ -1,6 +1,6 @@
 -- `reading::checks::check_blocks` meets its contract. The invariant: what is left to find, a 6 first and else the 7 that is kept or the
 -- next one, is what the whole search finds.
-use Prim.Native.Nat.{ℕ, ◌+◌, ◌-◌, ◌<◌, ◌≤◌}
+use Prim.Native.Nat.{ℕ, ◌+◌, ◌<◌, ◌≤◌}
 use mathlib.Core.Path.{◌≡◌, refl, sym, ap, ◌∙◌}
 use mathlib.Core.Bool.{Bool, true, false}
 use mathlib.Core.List.{List}
