@@ -6,7 +6,7 @@ use native.Mathlib.Omega.{arith}
 use borrow.Author.Rules.{rules}
 use mathlib.Core.List.{List, []}
 use lib.ListN.{length, drop}
-use Rattle.numbers.specs.Choice.{if◌then◌else◌}
+use Rattle.std.specs.Prelude.{if◌then◌else◌}
 use Rattle.lines.specs.Lines.{most_entries, line_of, empty, item_at, pushed, entries_of}
 use Rattle.opening.specs.Actions.{settled, settled_line}
 use Rattle.opening.proofs.Loops.{settle_on, line_on, settle_over, line_over}
