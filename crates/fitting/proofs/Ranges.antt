@@ -10,7 +10,7 @@ use borrow.Author.Tests.{lt-ltb, le-ltb, le-leb}
 use lib.Dec.{ltb, eqb}
 use lib.ListN.{get_or}
 use lib.IntN.{ℤ, pos}
-use Rattle.numbers.specs.Choice.{if◌then◌else◌}
+use Rattle.std.specs.Prelude.{if◌then◌else◌}
 use Rattle.numbers.proofs.Tests.{clash, and_both, both_true, not_true_false, by_flag}
 use Rattle.numbers.proofs.Below.{all_holds, all_true, all_fails}
 use Rattle.numbers.specs.Numbers.{lowest_counter, highest_counter, is_within}
@@ -59,6 +59,11 @@ module _ (n : ℕ) (test : ℕ → Bool) where
 
     pub turn_fails : {next : Bool} → next ≡ false → m < n → test m ≡ false → (next && all_from (m + 1) n test) ≡ answer
     turn_fails e l h = rw e (rw (from_fails m l h, and-false) at so_far)
+
+    pub turn :
+        {next : Bool} → m < n → (test m ≡ true → next ≡ fits) → (test m ≡ false → next ≡ false) →
+        (next && all_from (m + 1) n test) ≡ answer
+    turn l p q = by_flag (test m) (λ t. turn_fits (p t) t) (λ f. turn_fails (q f) l f)
 
     pub turns_end : n ≤ m → fits ≡ answer
     turns_end l = rw (from_ends m l, and-true) at so_far

@@ -1,6 +1,6 @@
 -- Two games as bytes, stated by hand and compared by evaluation: one as set up, and one in which every field is in use. Its routines have
 -- flags that tell each of the five from the others. Then bytes that are read, and what is told of them: one fault each.
-use Rattle.std.specs.Prelude.{ℕ, ◌+◌, ◌*◌, ◌≡◌, true, false, List, [], ◌∷◌, ◌++◌, map, pos, negsuc, length, take, drop, replicate, set}
+use Rattle.std.specs.Prelude.{ℕ, ◌+◌, ◌*◌, true, false, List, [], ◌∷◌, ◌++◌, map, pos, negsuc, length, take, drop, replicate, set}
 use Rattle.numbers.specs.Bytes.{half_bytes}
 use Rattle.book.specs.Written.{rest_for, signal, joined, book}
 use Rattle.lines.specs.Lines.{empty, pushed}

@@ -1,7 +1,7 @@
 -- `fitting::fits` meets its contract. Each test of the code is one of the contract, in the same order; the flags that the lists leave tell
 -- which routines are in them. The invariant: every slot before `at` fits.
 -- The arrays of the lent game are as long as their types say.
-use Prim.Native.Nat.{ℕ, ◌<◌, ◌≤◌}
+use Prim.Native.Nat.{ℕ, ◌<◌}
 use mathlib.Core.Path.{◌≡◌, refl, sym, subst, ◌∙◌}
 use mathlib.Core.Bool.{Bool, true, false, ◌&&◌}
 use mathlib.Core.List.{List}
@@ -9,7 +9,7 @@ use native.Mathlib.Omega.{arith}
 use borrow.Author.Rules.{rules}
 use lib.Dec.{ltb}
 use lib.ListN.{get_or}
-use Rattle.numbers.specs.Choice.{if◌then◌else◌}
+use Rattle.std.specs.Prelude.{if◌then◌else◌}
 use Rattle.numbers.specs.Numbers.{byte_limit}
 use Rattle.numbers.specs.Counting.{all_below}
 use Rattle.numbers.proofs.Tests.{both_true}

@@ -1,5 +1,4 @@
 -- `game::blank_game` meets its contract: every routine is the one that its callee ensures.
-use borrow.Author.Rules.{rules}
 use Rattle.game.specs.Game.{blank_game}
 use Rattle.game.proofs.blank_game.Goals as goal
 

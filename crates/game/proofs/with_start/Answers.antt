@@ -1,5 +1,4 @@
 -- `game::with_start` meets its contract: the code's two tests, one after the other, are the contract's.
-use borrow.Author.Rules.{rules}
 use borrow.Author.Tests.{eq-eqb, ne_eqb}
 use Rattle.game.specs.Game.{with_start}
 use Rattle.game.proofs.with_start.Goals as goal

@@ -3,11 +3,10 @@
 use Prim.Native.Nat.{◌≤◌}
 use mathlib.Core.Path.{◌≡◌}
 use lib.ListN.{length}
-use borrow.Author.Rules.{rules}
 use Rattle.game_vectors.proofs.run.Given as goal
 
 abbrev pub invariant-loop-left : goal.invariant-loop-left
-invariant-loop-left l = (length l.l.state ≡ length l.initial.l.l.state) × (l.left ≤ length l.l.state)
+invariant-loop-left l = (length l.piece ≡ length l.initial.piece) × (l.kept ≤ length l.piece)
 
 abbrev pub decreases-loop-left : goal.decreases-loop-left
-decreases-loop-left l = left
+decreases-loop-left l = l.left

@@ -2,7 +2,6 @@
 -- any other kind is 5 or more, and lies past the table.
 use Prim.Native.Nat.{◌≤◌}
 use native.Mathlib.Omega.{arith}
-use borrow.Author.Rules.{rules}
 use lib.ListN.{get_or-eq_default}
 use Rattle.ordering.proofs.order_count.Goals as goal
 

@@ -1,11 +1,10 @@
 -- `playing::mark_steps` meets its contract. The invariant: so many of the first `at` steps are mark steps. Each step that the loop reads
 -- is there, since an accepted book is as long as its counts say.
-use Prim.Native.Nat.{ℕ, ◌+◌, ◌-◌, ◌*◌, ◌≤◌}
+use Prim.Native.Nat.{ℕ, ◌+◌, ◌*◌}
 use mathlib.Core.Path.{◌≡◌, refl}
 use mathlib.Core.List.{List}
 use native.Mathlib.Numerals.{add-one}
 use native.Mathlib.Omega.{arith}
-use borrow.Author.Rules.{rules}
 use lib.Dec.{eqb}
 use lib.ListN.{get_or}
 use lib.Seq.{get_or-drop}
@@ -30,24 +29,20 @@ unfolding sum_below
 loop-at-init c = (refl, omega arith, omega arith)
 
 pub bounds-book-first : goal.bounds-book-first
-bounds-book-first c =
-    let s = c.before.before.before.before in
-    omega (arith, s.requires.laid.offsets.size, s.steps_from-first.ensures.0, c.steps-all.ensures.0)
+bounds-book-first c = omega (arith, c.requires.laid.offsets.size, c.steps_from-first.ensures.0, c.steps-all.ensures.0)
 
 pub loop-at-preserved : goal.loop-at-preserved
 loop-at-preserved c =
-    let l = c.before.before.before in
-    let s = l.before.before in
+    let l = c.loop-at in
     let mark = c.mark_at-count.ensures in (
-      rw (mark.0, s.steps_from-first.ensures.0, l.loop-at.invariant.0) (marks_on_lem s.args.book.now l.loop-at.at),
-      omega (arith, mark.1, l.loop-at.invariant.1),
+      rw (mark.0, c.steps_from-first.ensures.0, l.invariant.0) (marks_on_lem c.args.book.now l.at),
+      omega (arith, mark.1, l.invariant.1),
       omega (arith, c.loop-at-test.true),
     )
 
 pub returns : goal.returns
 returns c =
     let l = c.loop-at in
-    let s = c.before.before in
-    let all = s.steps-all.ensures.0 in
-    let last : l.at ≡ s.steps-all.result = omega (arith, l.invariant.2, c.loop-at-test.false) in
-    (rw (last, all) at l.invariant.0, omega (arith, l.invariant.1, l.invariant.2, all, s.requires.laid.counts.few_steps))
+    let all = c.steps-all.ensures.0 in
+    let last : l.at ≡ c.steps-all.result = omega (arith, l.invariant.2, c.loop-at-test.false) in
+    (rw (last, all) at l.invariant.0, omega (arith, l.invariant.1, l.invariant.2, all, c.requires.laid.counts.few_steps))

@@ -1,18 +1,11 @@
 -- `round` meets its contract. The invariant: the first `at` routines are taken apart. Once all are, the round is opened; its passes are
 -- played out, and the tables behind them have the round's game.
 use Prim.Native.Nat.{◌-◌, ◌≤◌}
-use native.Mathlib.Omega.{arith}
-use borrow.Author.Rules.{rules}
-use mathlib.Core.Path.{◌≡◌, subst}
-use Rattle.layout.specs.Layout.{most_routines}
-use Rattle.opening.specs.Games.{Opened}
-use Rattle.opening.proofs.Taking.{Taken, taken_none, take_on}
-use Rattle.opening.proofs.Opened.{few_routines_lem, opened}
-use Rattle.playing.proofs.Finished.{holds_game, finished}
+use Rattle.opening.proofs.Taking.{Taken}
 use Rattle.playing.proofs.round.Given as goal
 
 abbrev pub invariant-loop-at : goal.invariant-loop-at
-invariant-loop-at l = Taken l.initial.l.flags-1 l.at l.flags-1 l.fields-1 × (l.at ≤ l.initial.fields-1)
+invariant-loop-at l = Taken l.routines l.at l.flags l.fields × (l.at ≤ l.all)
 
 abbrev pub decreases-loop-at : goal.decreases-loop-at
-decreases-loop-at l = l.initial.fields-1 - l.at
+decreases-loop-at l = l.all - l.at

@@ -1,5 +1,4 @@
 -- `setup::new_game` meets its contract: the blank game and the list with routine 0 are those that its callees ensure.
-use borrow.Author.Rules.{rules}
 use Rattle.game.specs.Game.{blank_game}
 use Rattle.setup.specs.SetUp.{new_game}
 use Rattle.setup.proofs.new_game.Goals as goal

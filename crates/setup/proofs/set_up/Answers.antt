@@ -1,8 +1,7 @@
 -- `setup::set_up` meets its contract: the verdict is the book's, and decides between the new game and the lent one as the contract does.
 -- The new game fits an accepted book.
-use mathlib.Core.Path.{◌≡◌, ◌∙◌}
+use mathlib.Core.Path.{◌∙◌}
 use borrow.Author.Tests.{eq-eqb, ne_eqb}
-use Rattle.book.specs.Book.{book_verdict}
 use Rattle.fitting.proofs.Outcomes.{promised}
 use Rattle.setup.specs.SetUp.{set_up}
 use Rattle.setup.proofs.SetUp.{set_up_fits}

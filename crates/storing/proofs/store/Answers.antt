@@ -1,5 +1,4 @@
 -- `storing::store` meets its contract: form 1 is usable.
-use borrow.Author.Rules.{rules}
 use Rattle.stored_games.proofs.Forms.{form1_usable}
 use Rattle.storing.proofs.store.Goals as goal
 

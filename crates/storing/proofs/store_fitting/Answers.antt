@@ -6,14 +6,11 @@ use mathlib.Core.List.{List}
 use native.Mathlib.Nat.{zero-add}
 use native.Mathlib.Omega.{arith}
 use lib.ListN.{length}
-use borrow.Author.Rules.{rules}
 use Rattle.lines.specs.Lines.{used_of}
 use Rattle.stored_games.specs.Stored.{stored, length_of}
 use Rattle.stored_games.proofs.Ends.{stored_length}
 use Rattle.stored_games.proofs.Keeping.{stores}
 use Rattle.storing.proofs.Answers.{short_refuses, fitting_within}
-use Rattle.kinds.specs.declared.Counts.{Counts}
-use Rattle.book.specs.Accepted.{Accepted}
 use Rattle.game.specs.declared.Game.{Game}
 use Rattle.fitting.specs.Fits.{Fits}
 use Rattle.stored_games.specs.declared.Form.{Form}

@@ -1,19 +1,12 @@
 -- `arrays::are_within` meets its contract. The invariant: the slots passed so far and those from `at` on give the contract's answer.
 -- What the machine reads back of a signed number is the number, since it fits 32 bits.
 use Prim.Native.Nat.{ℕ, ◌-◌}
-use mathlib.Core.Path.{◌≡◌, sym, ◌∙◌}
+use mathlib.Core.Path.{◌≡◌}
 use mathlib.Core.Bool.{Bool, ◌&&◌}
-use mathlib.Core.Logic.{⊎_elim}
 use lib.ListN.{get_or}
 use lib.IntN.{pos}
-use borrow.Author.Rules.{rules}
-use borrow.Author.Tests.{not-true, not-false}
-use mir.Syntax.{w32}
-use mir.Val.{SFits, to_z, of_z}
-use mir.Facts.{to_z-of_z}
 use Rattle.numbers.specs.Numbers.{is_within}
 use Rattle.numbers.specs.Counting.{all_from}
-use Rattle.fitting.proofs.Ranges.{turn_fits, turn_fails, turns_end}
 use Rattle.fitting.proofs.arrays.are_within.Given as goal
 
 abbrev pub invariant-loop-at : goal.invariant-loop-at

@@ -1,19 +1,11 @@
 -- `arrays::entries_fit` meets its contract. The invariant: every entry before `at` fits, and the flags tell which routines these are.
-use Prim.Native.Nat.{◌<◌, ◌≤◌, ◌-◌}
-use mathlib.Core.Path.{◌≡◌, refl, sym, ap, ◌∙◌}
-use mathlib.Core.Bool.{true, false}
-use native.Mathlib.Omega.{arith}
-use borrow.Author.Rules.{rules}
-use lib.ListN.{length, length-replicate}
-use mir.Syntax.{w8}
-use mir.Val.{Fits}
+use Prim.Native.Nat.{◌≤◌, ◌-◌}
+use mathlib.Core.Path.{◌≡◌}
+use mathlib.Core.Bool.{true}
+use lib.ListN.{length}
 use Rattle.numbers.specs.Numbers.{byte_limit}
-use Rattle.lines.specs.Lines.{item_at}
 use Rattle.numbers.specs.Counting.{all_below}
-use Rattle.numbers.proofs.Tests.{clash}
-use Rattle.numbers.proofs.Below.{all_fails, all_next, all_ends}
 use Rattle.fitting.specs.Arrays.{entries_before, entry_fits, Flagged}
-use Rattle.fitting.proofs.Flagged.{flagged_none, flagged_next, flagged_all, entry_beyond, entry_twice, entry_new}
 use Rattle.fitting.proofs.arrays.entries_fit.Given as goal
 
 abbrev pub invariant-loop-at : goal.invariant-loop-at

@@ -2,13 +2,9 @@
 use Prim.Native.Nat.{◌-◌}
 use mathlib.Core.Path.{◌≡◌}
 use mathlib.Core.Bool.{◌&&◌}
-use mathlib.Core.Logic.{⊎_elim}
 use lib.Dec.{eqb}
-use borrow.Author.Rules.{rules}
-use borrow.Author.Tests.{eq-eqb, ne_eqb}
 use Rattle.numbers.specs.Counting.{all_from}
 use Rattle.lines.specs.Lines.{most_entries, item_at}
-use Rattle.fitting.proofs.Ranges.{turn_fits, turn_fails, turns_end}
 use Rattle.fitting.proofs.arrays.rest_fits.Given as goal
 
 abbrev pub invariant-loop-at : goal.invariant-loop-at

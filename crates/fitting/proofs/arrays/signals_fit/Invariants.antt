@@ -2,13 +2,9 @@
 use Prim.Native.Nat.{◌-◌}
 use mathlib.Core.Path.{◌≡◌}
 use mathlib.Core.Bool.{◌&&◌, false, not}
-use mathlib.Core.Logic.{⊎_elim}
 use lib.ListN.{get_or}
-use borrow.Author.Rules.{rules}
 use Rattle.numbers.specs.Counting.{all_from}
 use Rattle.layout.specs.Layout.{most_signals}
-use Rattle.fitting.specs.Arrays.{signals_fit}
-use Rattle.fitting.proofs.Ranges.{turn_fits, turn_fails, turns_end}
 use Rattle.fitting.proofs.arrays.signals_fit.Given as goal
 
 abbrev pub invariant-loop-at : goal.invariant-loop-at

@@ -1,5 +1,4 @@
 -- `slots::is_blank` meets its contract: each test of the code is one of the contract, in the same order.
-use borrow.Author.Rules.{rules}
 use borrow.Author.Tests.{eq-eqb, ne_eqb}
 use Rattle.fitting.proofs.slots.is_blank.Goals as goal
 

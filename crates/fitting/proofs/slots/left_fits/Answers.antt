@@ -1,6 +1,5 @@
 -- `slots::left_fits` meets its contract: the code's choice is the contract's, and the count is that of the step at the place, which the
 -- book's limits decode as the table does.
-use borrow.Author.Rules.{rules}
 use Rattle.kinds.proofs.Limits.{step_within_lem}
 use Rattle.fitting.proofs.slots.left_fits.Goals as goal
 

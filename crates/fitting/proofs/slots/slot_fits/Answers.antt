@@ -1,5 +1,4 @@
 -- `slots::slot_fits` meets its contract: the code's choice is the contract's.
-use borrow.Author.Rules.{rules}
 use borrow.Author.Tests.{lt-ltb, le-ltb}
 use Rattle.fitting.proofs.slots.slot_fits.Goals as goal
 

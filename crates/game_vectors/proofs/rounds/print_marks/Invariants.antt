@@ -2,11 +2,10 @@
 -- The measure is what is left of them.
 use Prim.Native.Nat.{◌≤◌, ◌-◌, ◌/◌}
 use lib.ListN.{length}
-use borrow.Author.Rules.{rules}
 use Rattle.game_vectors.proofs.rounds.print_marks.Given as goal
 
 abbrev pub invariant-loop-at : goal.invariant-loop-at
-invariant-loop-at l = at ≤ length l.numbers / 2
+invariant-loop-at l = l.at ≤ length l.numbers / 2
 
 abbrev pub decreases-loop-at : goal.decreases-loop-at
-decreases-loop-at l = length l.numbers / 2 - at
+decreases-loop-at l = length l.numbers / 2 - l.at

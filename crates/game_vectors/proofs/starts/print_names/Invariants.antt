@@ -2,9 +2,7 @@
 -- The measure is how much room is left.
 use Prim.Native.Nat.{ℕ, ◌+◌, ◌-◌, ◌≤◌}
 use mathlib.Core.Path.{◌≡◌}
-use native.Mathlib.Omega.{arith}
 use lib.ListN.{length}
-use borrow.Author.Rules.{rules}
 use Rattle.layout.specs.Layout.{most_routines}
 use Rattle.game_vectors.proofs.starts.print_names.Given as goal
 
@@ -13,7 +11,7 @@ abbrev pub room : ℕ
 room = 3 + most_routines
 
 abbrev pub invariant-loop-used : goal.invariant-loop-used
-invariant-loop-used l = (used ≤ room) × (length l.l.used ≡ room)
+invariant-loop-used l = (l.used ≤ room) × (length l.numbers ≡ room)
 
 abbrev pub decreases-loop-used : goal.decreases-loop-used
-decreases-loop-used l = room - used
+decreases-loop-used l = room - l.used

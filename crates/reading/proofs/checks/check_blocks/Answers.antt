@@ -8,7 +8,7 @@ use native.Mathlib.Omega.{arith}
 use native.Mathlib.Decide.{ℕ_discrete}
 use lib.Dec.{ltb}
 use borrow.Author.Rules.{rules}
-use Rattle.numbers.specs.Choice.{if◌then◌else◌}
+use Rattle.std.specs.Prelude.{if◌then◌else◌}
 use Rattle.verdicts.specs.declared.Verdict.{Verdict}
 use Rattle.verdicts.specs.declared.BookAnswer.{BookAnswer}
 use Rattle.verdicts.specs.declared.BookAnswer.TheVariants.{Accepted, TooShort, WrongCount, WrongLayout, WrongEntry, WrongStep}

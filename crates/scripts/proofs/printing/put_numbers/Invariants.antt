@@ -2,11 +2,10 @@
 -- The measure is what is left of it.
 use Prim.Native.Nat.{◌≤◌, ◌-◌}
 use lib.ListN.{length}
-use borrow.Author.Rules.{rules}
 use Rattle.scripts.proofs.printing.put_numbers.Given as goal
 
 abbrev pub invariant-loop-at : goal.invariant-loop-at
-invariant-loop-at l = l.at ≤ length l.initial.l.line
+invariant-loop-at l = l.at ≤ length l.numbers
 
 abbrev pub decreases-loop-at : goal.decreases-loop-at
-decreases-loop-at l = length l.initial.l.line - l.at
+decreases-loop-at l = length l.numbers - l.at

@@ -1,7 +1,6 @@
 -- `storing::bits::is_broadcast` meets its contract: past its end a list gives what is asked for there.
 use mathlib.Core.Path.{sym}
 use native.Mathlib.Omega.{arith}
-use borrow.Author.Rules.{rules}
 use lib.ListN.{get_or-eq_default}
 use Rattle.storing.proofs.bits.is_broadcast.Goals as goal
 

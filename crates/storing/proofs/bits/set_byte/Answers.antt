@@ -1,10 +1,9 @@
 -- `storing::bits::set_byte` meets its contract. The invariant: the value is the number of the bits from `left` on.
-use Prim.Native.Nat.{◌+◌, ◌-◌, ◌≤◌}
+use Prim.Native.Nat.{◌+◌, ◌-◌}
 use mathlib.Core.Path.{◌≡◌, ◌∙◌}
 use native.Mathlib.Omega.{arith}
 use borrow.Author.Rules.{rules}
-use Rattle.stored_games.specs.Forms.{byte_bits}
-use Rattle.storing.proofs.Flags.{upper_bits, upper_none, upper_more, upper_all, upper_room}
+use Rattle.storing.proofs.Flags.{upper_none, upper_more, upper_all, upper_room}
 use Rattle.storing.proofs.bits.set_byte.Goals as goal
 
 pub loop-left-init : goal.loop-left-init

@@ -1,6 +1,5 @@
 -- `storing::bits::with_bit` meets its contract: twice the rest, and one more where the bit is set.
 use native.Mathlib.Omega.{arith}
-use borrow.Author.Rules.{rules}
 use Rattle.storing.proofs.bits.with_bit.Goals as goal
 
 pub returns-then-bit : goal.returns-then-bit

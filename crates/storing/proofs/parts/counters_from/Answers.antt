@@ -1,8 +1,5 @@
 -- `storing::parts::counters_from` meets its contract: within a book's limits the sum is small.
-use Prim.Native.Nat.{◌≤◌}
 use native.Mathlib.Omega.{arith}
-use borrow.Author.Rules.{rules}
-use Rattle.stored_games.specs.Stored.{counters_from}
 use Rattle.storing.proofs.Room.{counters_near}
 use Rattle.storing.proofs.parts.counters_from.Goals as goal
 

@@ -1,5 +1,4 @@
 -- `storing::parts::fields_of` meets its contract: the flags and the bytes of the count left are what the two calls say.
-use borrow.Author.Rules.{rules}
 use Rattle.storing.proofs.parts.fields_of.Goals as goal
 
 pub returns : goal.returns

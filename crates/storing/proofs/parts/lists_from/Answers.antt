@@ -1,6 +1,5 @@
 -- `storing::parts::lists_from` meets its contract: within a book's limits the sum is small.
 use native.Mathlib.Omega.{arith}
-use borrow.Author.Rules.{rules}
 use Rattle.storing.proofs.Room.{lists_near}
 use Rattle.storing.proofs.parts.lists_from.Goals as goal
 

@@ -1,6 +1,6 @@
 -- `storing::parts::put` meets its contract. The invariant: the bytes from `done` on, written behind those in the buffer, give the buffer
 -- that all of them give at the start.
-use Prim.Native.Nat.{◌+◌, ◌-◌, ◌≤◌, ◌<◌}
+use Prim.Native.Nat.{◌+◌, ◌<◌}
 use mathlib.Core.Path.{◌≡◌, refl, sym, ◌∙◌}
 use mathlib.Core.List.{[], ◌∷◌}
 use native.Mathlib.Nat.{add-zero}
@@ -9,7 +9,6 @@ use native.Mathlib.Omega.{arith}
 use borrow.Author.Rules.{rules}
 use lib.ListN.{length, drop, get_or, length-set, take-append-drop, drop_of_length-le}
 use lib.Seq.{drop-cons}
-use Rattle.numbers.specs.Buffers.{with_part}
 use Rattle.numbers.proofs.Buffers.{part_one}
 use Rattle.storing.proofs.parts.put.Goals as goal
 

@@ -1,16 +1,9 @@
 -- `storing::parts::put` meets its contract. The invariant: the bytes from `done` on, written behind those in the buffer, give the buffer
 -- that all of them give at the start.
-use Prim.Native.Nat.{◌+◌, ◌-◌, ◌≤◌, ◌<◌}
-use mathlib.Core.Path.{◌≡◌, refl, sym, ◌∙◌}
-use mathlib.Core.List.{[], ◌∷◌}
-use native.Mathlib.Nat.{add-zero}
-use native.Mathlib.Numerals.{add-one}
-use native.Mathlib.Omega.{arith}
-use borrow.Author.Rules.{rules}
-use lib.ListN.{length, drop, get_or, length-set, take-append-drop, drop_of_length-le}
-use lib.Seq.{drop-cons}
+use Prim.Native.Nat.{◌+◌, ◌-◌, ◌≤◌}
+use mathlib.Core.Path.{◌≡◌}
+use lib.ListN.{length, drop}
 use Rattle.numbers.specs.Buffers.{with_part}
-use Rattle.numbers.proofs.Buffers.{part_one}
 use Rattle.storing.proofs.parts.put.Given as goal
 
 abbrev pub invariant-loop-done : goal.invariant-loop-done

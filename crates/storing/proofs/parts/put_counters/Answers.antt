@@ -1,18 +1,14 @@
 -- `storing::parts::put_counters` meets its contract. The invariant: the bytes of the first `done` counters are put. What the machine reads
 -- back of a signed number is the number, since it fits 32 bits.
-use Prim.Native.Nat.{ℕ, ◌-◌, ◌≤◌}
 use mathlib.Core.Path.{refl, ap, ◌∙◌}
-use mathlib.Core.List.{List}
 use native.Mathlib.Omega.{arith}
 use borrow.Author.Rules.{rules}
-use lib.IntN.{ℤ, pos}
+use lib.IntN.{pos}
 use lib.ListN.{length, get_or}
 use mir.Syntax.{w32}
 use mir.Val.{SFits}
 use mir.Facts.{to_z-of_z}
-use Rattle.numbers.specs.Bytes.{word_bytes, complement}
-use Rattle.stored_games.specs.Bits.{joined_below}
-use Rattle.storing.specs.Puts.{Put}
+use Rattle.numbers.specs.Bytes.{word_bytes}
 use Rattle.storing.proofs.Puts.{joined_starts, joined_next, joined_place, joined_ends}
 use Rattle.storing.proofs.parts.put_counters.Invariants.{counter_bytes_of}
 use Rattle.storing.proofs.parts.put_counters.Goals as goal

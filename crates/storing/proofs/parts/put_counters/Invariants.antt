@@ -1,19 +1,12 @@
 -- `storing::parts::put_counters` meets its contract. The invariant: the bytes of the first `done` counters are put. What the machine reads
 -- back of a signed number is the number, since it fits 32 bits.
 use Prim.Native.Nat.{ℕ, ◌-◌, ◌≤◌}
-use mathlib.Core.Path.{refl, ap, ◌∙◌}
 use mathlib.Core.List.{List}
-use native.Mathlib.Omega.{arith}
-use borrow.Author.Rules.{rules}
 use lib.IntN.{ℤ, pos}
-use lib.ListN.{length, get_or}
-use mir.Syntax.{w32}
-use mir.Val.{SFits}
-use mir.Facts.{to_z-of_z}
+use lib.ListN.{get_or}
 use Rattle.numbers.specs.Bytes.{word_bytes, complement}
 use Rattle.stored_games.specs.Bits.{joined_below}
 use Rattle.storing.specs.Puts.{Put}
-use Rattle.storing.proofs.Puts.{joined_starts, joined_next, joined_place, joined_ends}
 use Rattle.storing.proofs.parts.put_counters.Given as goal
 
 abbrev pub counter_bytes_of : List ℤ → ℕ → List ℕ

@@ -1,5 +1,4 @@
 -- `storing::parts::put_header` meets its contract: the seven numbers are put one behind another.
-use borrow.Author.Rules.{rules}
 use Rattle.stored_games.specs.Stored.{game_header}
 use Rattle.storing.proofs.Puts.{then}
 use Rattle.storing.proofs.parts.put_header.Goals as goal

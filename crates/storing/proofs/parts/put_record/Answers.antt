@@ -1,6 +1,5 @@
 -- `storing::parts::put_record` meets its contract: as many of the fields' bytes are put as a record has.
 use native.Mathlib.Nat.{sub-zero}
-use borrow.Author.Rules.{rules}
 use Rattle.stored_games.specs.Stored.{record_of}
 use Rattle.storing.proofs.parts.put_record.Goals as goal
 

@@ -1,13 +1,7 @@
 -- `storing::parts::put_set` meets its contract. The invariant: the first `done` bytes of the set are put.
-use Prim.Native.Nat.{ℕ, ◌-◌, ◌≤◌}
 use mathlib.Core.Path.{refl}
-use mathlib.Core.Bool.{Bool}
-use mathlib.Core.List.{List, [], ◌∷◌}
 use native.Mathlib.Omega.{arith}
 use borrow.Author.Rules.{rules}
-use Rattle.stored_games.specs.Bits.{joined_below}
-use Rattle.stored_games.specs.Stored.{set_byte}
-use Rattle.storing.specs.Puts.{Put}
 use Rattle.storing.proofs.Puts.{joined_starts, joined_next, joined_place, joined_ends}
 use Rattle.storing.proofs.parts.put_set.Invariants.{set_bytes_of}
 use Rattle.storing.proofs.parts.put_set.Goals as goal

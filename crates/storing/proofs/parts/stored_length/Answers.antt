@@ -1,7 +1,6 @@
 -- `storing::parts::stored_length` meets its contract: within a book's limits, and with lists of at most 64 entries, each sum is small.
 use Prim.Native.Nat.{◌≤◌}
 use native.Mathlib.Omega.{arith}
-use borrow.Author.Rules.{rules}
 use Rattle.stored_games.specs.Stored.{length_of}
 use Rattle.storing.proofs.Room.{lists_near}
 use Rattle.storing.proofs.parts.stored_length.Goals as goal
