@@ -39,6 +39,13 @@ highest_bit = 9223372036854775808
 abbrev pub difference : ℤ → ℤ → ℕ
 difference v n = raised_of v + highest_bit - raised_of n
 
+-- what is read off it: 1 where the first is not less, and 1 where it is greater
+abbrev pub not_less : ℤ → ℤ → ℕ
+not_less v n = difference v n / highest_bit
+
+abbrev pub above : ℤ → ℤ → ℕ
+above v n = (difference v n - 1) / highest_bit
+
 -- two tests of order that pass alike
 alike : (p q a b : ℕ) → (p ≤ q → a ≤ b) → (q < p → b < a) → leb p q ≡ leb a b
 alike p q a b f g =
@@ -57,18 +64,18 @@ module _ (v n : ℤ) (f : SFits w32 v) (g : SFits w32 n) where
       let small' = raised_small n g in
       at_most n v g f ∙ alike (difference n v) highest_bit highest_bit (difference v n) (omega arith) (omega arith)
 
-  pub less : 1 - difference v n / highest_bit ≡ (if lt_z v n then 1 else 0)
+  pub less : 1 - not_less v n ≡ (if lt_z v n then 1 else 0)
   less =
       rw (turned n v, at_least)
       (by_flag (leb highest_bit (difference v n)) (λ e. rw e (omega (arith, leb-true))) (λ e. rw e (omega (arith, leb-false))))
 
-  pub greater : (difference v n - 1) / highest_bit ≡ (if lt_z n v then 1 else 0)
+  pub greater : above v n ≡ (if lt_z n v then 1 else 0)
   greater =
       let small = raised_small v f in
       rw (turned v n, at_most v n f g)
       (by_flag (leb (difference v n) highest_bit) (λ e. rw e (omega (arith, leb-true))) (λ e. rw e (omega (arith, leb-false))))
 
-  pub equal : difference v n / highest_bit - (difference v n - 1) / highest_bit ≡ (if le_z v n && le_z n v then 1 else 0)
+  pub equal : not_less v n - above v n ≡ (if le_z v n && le_z n v then 1 else 0)
   equal =
       let small = raised_small v f in
       rw (at_most v n f g, at_least)
