@@ -1,6 +1,5 @@
 -- The digits of a word, and the numbers that words of them stand for.
-use Rattle.std.specs.Prelude.{ℕ, zero, suc, ◌+◌, ◌-◌, ◌*◌, Bool, ◌&&◌, List, eqb, ltb, leb, length, get_or, drop}
-use Rattle.numbers.specs.Choice.{if◌then◌else◌}
+use Rattle.std.specs.Prelude.{ℕ, zero, suc, ◌+◌, ◌-◌, ◌*◌, Bool, ◌&&◌, List, eqb, ltb, leb, length, get_or, drop, if◌then◌else◌}
 use Rattle.words.specs.Words.{first_of, rest_of}
 use Rattle.digits.specs.declared.Number.{Number}
 use Rattle.digits.specs.declared.Number.TheVariants as number

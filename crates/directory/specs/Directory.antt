@@ -1,6 +1,5 @@
 -- The directory of a book, and the steps of a routine: document 01, "The book", and refusal 4.
-use Rattle.std.specs.Prelude.{ℕ, ◌+◌, ◌*◌, ◌<◌, ◌≡◌, List, leb, eqb, length, drop, take}
-use Rattle.numbers.specs.Choice.{if◌then◌else◌}
+use Rattle.std.specs.Prelude.{ℕ, ◌+◌, ◌*◌, ◌<◌, ◌≡◌, List, leb, eqb, length, drop, take, if◌then◌else◌}
 use Rattle.numbers.specs.Counting.{sum_below}
 use Rattle.numbers.specs.Numbers.{half_at}
 use Rattle.kinds.specs.declared.Step.{Step}

@@ -10,7 +10,7 @@ use borrow.Author.Tests.{lt-ltb, le-ltb, le-leb}
 use lib.Dec.{ltb, eqb}
 use lib.ListN.{get_or}
 use lib.IntN.{ℤ, pos}
-use Rattle.numbers.specs.Choice.{if◌then◌else◌}
+use Rattle.std.specs.Prelude.{if◌then◌else◌}
 use Rattle.numbers.proofs.Tests.{clash, and_both, both_true, not_true_false, by_flag}
 use Rattle.numbers.proofs.Below.{all_holds, all_true, all_fails}
 use Rattle.numbers.specs.Numbers.{lowest_counter, highest_counter, is_within}

@@ -8,7 +8,7 @@ use native.Mathlib.Omega.{arith}
 use borrow.Author.Tests.{eqb-true, eqb-false, eq-eqb, lt-ltb}
 use lib.Dec.{eqb}
 use lib.Seq.{get_or-set_same}
-use Rattle.numbers.specs.Choice.{if◌then◌else◌}
+use Rattle.std.specs.Prelude.{if◌then◌else◌}
 use Rattle.numbers.proofs.Tests.{clash, by_test, by_flag}
 use Rattle.layout.specs.Layout.{routines_of}
 use Rattle.book.specs.Accepted.{CountsInRange}

@@ -1,7 +1,6 @@
 -- Whether the lists, the counters and the signals of a game fit a book, as a test of each slot of an array in turn: document 01,
 -- "A game fits a book if". "anything kept beyond them is 0; every number lies in its range".
-use Rattle.std.specs.Prelude.{ℕ, ◌<◌, ◌≡◌, Bool, false, ◌&&◌, ◌||◌, not, List, leb, ltb, eqb, get_or, replicate, ℤ, pos}
-use Rattle.numbers.specs.Choice.{if◌then◌else◌}
+use Rattle.std.specs.Prelude.{ℕ, ◌<◌, ◌≡◌, Bool, false, ◌&&◌, ◌||◌, not, List, leb, ltb, eqb, get_or, replicate, ℤ, pos, if◌then◌else◌}
 use Rattle.numbers.specs.Numbers.{byte_limit, lowest_counter, highest_counter, is_within}
 use Rattle.layout.specs.Layout.{most_signals, most_counters}
 use Rattle.lines.specs.declared.Line.{Line}

@@ -1,6 +1,5 @@
 -- Whether the routines of a game fit a book, as it is tested, each slot of the array in turn: document 01, "A game fits a book if".
-use Rattle.std.specs.Prelude.{ℕ, Bool, true, false, ◌&&◌, ◌||◌, not, List, [], ◌∷◌, leb, ltb, eqb, get_or}
-use Rattle.numbers.specs.Choice.{if◌then◌else◌}
+use Rattle.std.specs.Prelude.{ℕ, Bool, true, false, ◌&&◌, ◌||◌, not, List, [], ◌∷◌, leb, ltb, eqb, get_or, if◌then◌else◌}
 use Rattle.forms.specs.Timed.{timed_count}
 use Rattle.directory.specs.Directory.{step_count, routine_step}
 use Rattle.game.specs.declared.Routine.{Routine}

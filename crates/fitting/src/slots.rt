@@ -1,6 +1,5 @@
 // Whether the slots of a game's routines fit a book.
-ghost use Rattle.std.specs.Prelude.{◌≡◌, ◌||◌, ltb};
-ghost use Rattle.numbers.specs.Choice.{if◌then◌else◌};
+ghost use Rattle.std.specs.Prelude.{◌≡◌, ◌||◌, ltb, if◌then◌else◌};
 ghost use Rattle.forms.specs.Timed.{timed_count};
 ghost use Rattle.kinds.specs.Limits.{limits_of};
 ghost use Rattle.layout.specs.Layout.{counts_of};

@@ -1,6 +1,5 @@
 -- What a step is to the blocks around it: document 01, on blocks and pausing.
-use Rattle.std.specs.Prelude.{Bool, true, false, eqb}
-use Rattle.numbers.specs.Choice.{if◌then◌else◌}
+use Rattle.std.specs.Prelude.{Bool, true, false, eqb, if◌then◌else◌}
 use Rattle.kinds.specs.declared.Kind.{Kind}
 use Rattle.kinds.specs.declared.Kind.TheVariants.{Mark, Set, Add, Take, Signal, SignalNumber, Rest, RestFor, Wait, WaitFor}
 use Rattle.kinds.specs.declared.Kind.TheVariants.{Join, JoinFor, Read}

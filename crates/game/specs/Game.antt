@@ -1,8 +1,7 @@
 -- What a game keeps: document 01, "The game". "For each routine: stage .., suspended or not, place .., begun or not, and the count left.
 -- Besides: the numbers R, E and C, the counters, the playing order of listed routines, the routines to start in order, the sets to stop,
 -- suspend and resume, the signals to broadcast."
-use Rattle.std.specs.Prelude.{ℕ, ◌≡◌, Bool, true, false, ◌&&◌, not, List, eqb, length, get_or, set, replicate, ℤ, pos}
-use Rattle.numbers.specs.Choice.{if◌then◌else◌}
+use Rattle.std.specs.Prelude.{ℕ, ◌≡◌, Bool, true, false, ◌&&◌, not, List, eqb, length, get_or, set, replicate, ℤ, pos, if◌then◌else◌}
 use Rattle.kinds.specs.declared.Counts.{Counts}
 use Rattle.layout.specs.Layout.{most_routines, most_signals, most_counters}
 use Rattle.game.specs.declared.Routine.{Routine}

@@ -1,6 +1,5 @@
 -- What set-up, an order and reading a stored game answer.
-use Rattle.std.specs.Prelude.{eqb}
-use Rattle.numbers.specs.Choice.{if◌then◌else◌}
+use Rattle.std.specs.Prelude.{eqb, if◌then◌else◌}
 use Rattle.verdicts.specs.declared.Verdict.{Verdict}
 use Rattle.game.specs.declared.Game.{Game}
 use Rattle.game.specs.declared.Outcome.{Outcome}

@@ -1,6 +1,5 @@
 -- The bytes that words of hexadecimal digits stand for.
-use Rattle.std.specs.Prelude.{ℕ, zero, suc, ◌+◌, ◌*◌, ◌/◌, ◌%◌, Bool, ◌&&◌, List, [], ◌∷◌, eqb, ltb, leb, length, get_or, set}
-use Rattle.numbers.specs.Choice.{if◌then◌else◌}
+use Rattle.std.specs.Prelude.{ℕ, zero, suc, ◌+◌, ◌*◌, ◌/◌, ◌%◌, Bool, ◌&&◌, List, [], ◌∷◌, eqb, ltb, leb, length, get_or, set, if◌then◌else◌}
 use Rattle.numbers.specs.Counting.{all_below}
 use Rattle.words.specs.Words.{is_same}
 use Rattle.digits.specs.Digits.{minus, digit_of}

@@ -1,7 +1,6 @@
 -- That playing stored games is playing games: what a program is told that keeps its game as bytes, whatever calls it makes, is what the
 -- calls on games tell, and the bytes are at any time those of the game that these have come to.
-use Rattle.std.specs.Prelude.{ℕ, ◌≤◌, ◌≡◌, List, [], ◌∷◌, eqb, ℤ, length}
-use Rattle.numbers.specs.Choice.{if◌then◌else◌}
+use Rattle.std.specs.Prelude.{ℕ, ◌≤◌, ◌≡◌, List, [], ◌∷◌, eqb, ℤ, length, if◌then◌else◌}
 use Rattle.numbers.specs.Buffers.{with_front}
 use Rattle.verdicts.specs.declared.Verdict.{Verdict}
 use Rattle.verdicts.specs.Verdicts.{◌or_else◌}

@@ -1,7 +1,6 @@
 -- Games that are kept as bytes: the stored game stands at the front of a buffer that a program lends, and the program knows its length.
 -- Each call is reading the stored game, the call on the game, and storing the game again, and the first refusal among them is told.
-use Rattle.std.specs.Prelude.{ℕ, List, [], eqb, leb, ℤ, length, take}
-use Rattle.numbers.specs.Choice.{if◌then◌else◌}
+use Rattle.std.specs.Prelude.{ℕ, List, [], eqb, leb, ℤ, length, take, if◌then◌else◌}
 use Rattle.verdicts.specs.declared.Verdict.{Verdict}
 use Rattle.verdicts.specs.Verdicts.{◌or_else◌}
 use Rattle.game.specs.declared.Game.{Game}

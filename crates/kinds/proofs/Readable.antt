@@ -11,7 +11,7 @@ use lib.Dec.{T, ltb, lt→ltb, ltb→lt}
 use lib.IntN.{ℤ}
 use lib.Signed.{le_z}
 use mir.Facts.{and_yes, yes_and}
-use Rattle.numbers.specs.Choice.{if◌then◌else◌}
+use Rattle.std.specs.Prelude.{if◌then◌else◌}
 use Rattle.numbers.specs.Numbers.{is_within}
 use Rattle.kinds.specs.declared.Kind.{Kind}
 use Rattle.kinds.specs.declared.Step.TheVariants as step

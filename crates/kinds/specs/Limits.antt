@@ -1,8 +1,7 @@
 -- The limits of a book's fields as lists of numbers, and steps that are held against such lists: what the code decodes with.
 -- With the limits of a book's counts the steps are those of the table (`step_within_lem`, crates/kinds/proofs/Limits.antt).
-use Rattle.std.specs.Prelude.{ℕ, ◌&&◌, List, [], ◌∷◌, map, ltb, get_or, ℤ, pos}
+use Rattle.std.specs.Prelude.{ℕ, ◌&&◌, List, [], ◌∷◌, map, ltb, get_or, ℤ, pos, if◌then◌else◌}
 use Rattle.std.specs.Int.Signed.{lt_z}
-use Rattle.numbers.specs.Choice.{if◌then◌else◌}
 use Rattle.numbers.specs.Numbers.{is_within}
 use Rattle.kinds.specs.declared.Step.{Step}
 use Rattle.kinds.specs.declared.Step.TheVariants as step

@@ -1,6 +1,5 @@
 -- A step's eight bytes, taken apart into one of the 21 kinds, or turned down: document 01's table.
-use Rattle.std.specs.Prelude.{ℕ, ◌+◌, ◌*◌, ◌/◌, ◌<◌, ◌&&◌, List, [], ◌∷◌, ltb, get_or, length, ℤ, pos, ◌≤ℤ◌}
-use Rattle.numbers.specs.Choice.{if◌then◌else◌}
+use Rattle.std.specs.Prelude.{ℕ, ◌+◌, ◌*◌, ◌/◌, ◌<◌, ◌&&◌, List, [], ◌∷◌, ltb, get_or, length, ℤ, pos, ◌≤ℤ◌, if◌then◌else◌}
 use Rattle.numbers.specs.Numbers.{half_of, number_of, lowest, highest, is_within, count_of}
 use Rattle.kinds.specs.declared.Kind.{Kind}
 use Rattle.kinds.specs.declared.Kind.TheVariants.{Mark, Set, Add, Take, Signal, SignalNumber, Rest, RestFor, Wait, WaitFor}

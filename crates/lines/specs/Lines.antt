@@ -1,6 +1,5 @@
 -- Lists of routines: "the playing order of listed routines" (the paper's actual), "the routines to start in order" (to_start).
-use Rattle.std.specs.Prelude.{ℕ, ◌+◌, Bool, List, [], ◌∷◌, ltb, eqb, get_or, set, take, replicate}
-use Rattle.numbers.specs.Choice.{if◌then◌else◌}
+use Rattle.std.specs.Prelude.{ℕ, ◌+◌, Bool, List, [], ◌∷◌, ltb, eqb, get_or, set, take, replicate, if◌then◌else◌}
 use Rattle.lines.specs.declared.Line.{Line}
 use Rattle.numbers.specs.Counting.{any_below}
 

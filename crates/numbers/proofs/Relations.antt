@@ -12,7 +12,7 @@ use lib.Dec.{T, eqb, leb→le}
 use lib.IntN.{ℤ, pos, negsuc}
 use lib.Signed.{le_z, lt_z, ◌<ℤ◌, ≤ℤ_refl}
 use mir.Facts.{and_yes, yes_and}
-use Rattle.numbers.specs.Choice.{if◌then◌else◌}
+use Rattle.std.specs.Prelude.{if◌then◌else◌}
 use Rattle.numbers.specs.Numbers.{relation_of}
 use Rattle.numbers.specs.Relations.{Holds}
 use Rattle.numbers.proofs.Tests.{clash}

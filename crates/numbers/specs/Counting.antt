@@ -1,7 +1,6 @@
 -- Counting: a test at each, or at one, of the first n numbers, how many of them pass it, the values of a function at them, and a sum over
 -- them; how many items of a list pass a test, what holds of each, or of some, and a sum over them.
-use Rattle.std.specs.Prelude.{ℕ, zero, suc, ◌+◌, ◌≡◌, Bool, true, false, ◌&&◌, ◌||◌, List, [], ◌∷◌, ◌⊎◌, ltb}
-use Rattle.numbers.specs.Choice.{if◌then◌else◌}
+use Rattle.std.specs.Prelude.{ℕ, zero, suc, ◌+◌, ◌≡◌, Bool, true, false, ◌&&◌, ◌||◌, List, [], ◌∷◌, ◌⊎◌, ltb, if◌then◌else◌}
 
 unfoldable pub all_below : ℕ → (ℕ → Bool) → Bool
 all_below zero test = true

@@ -1,5 +1,4 @@
 pub mod Counting
-pub mod Choice
 pub mod Buffers
 pub mod Numbers
 pub mod Bytes

@@ -1,8 +1,7 @@
 -- The numbers of a book. Document 01: "All numbers are little-endian; 16 bits unless said."
-use Rattle.std.specs.Prelude.{ℕ, ◌+◌, ◌*◌, ◌-◌, Bool, ◌&&◌, List, ltb, eqb, get_or, ℤ, pos, negsuc, nat_abs, ◌+ℤ◌, ◌-ℤ◌, ◌≤ℤ◌}
+use Rattle.std.specs.Prelude.{ℕ, ◌+◌, ◌*◌, ◌-◌, Bool, ◌&&◌, List, ltb, eqb, get_or, ℤ, pos, negsuc, nat_abs, ◌+ℤ◌, ◌-ℤ◌, ◌≤ℤ◌, if◌then◌else◌}
 use Rattle.std.specs.Int.Signed.{le_z, lt_z}
 use Rattle.numbers.specs.declared.Sum.{Sum}
-use Rattle.numbers.specs.Choice.{if◌then◌else◌}
 
 -- how many numbers 8, 16 and 32 bits hold
 abbrev pub byte_limit : ℕ

@@ -1,8 +1,7 @@
 #![tactic(auto)]
 // The numbers of a book: little-endian, of 16 bits and of 32 in two's complement.
-ghost use Rattle.std.specs.Prelude.{◌≡◌, ◌<◌, ◌≤◌, T, eqb, pos, nat_abs, ◌+ℤ◌, ◌-ℤ◌};
+ghost use Rattle.std.specs.Prelude.{◌≡◌, ◌<◌, ◌≤◌, T, eqb, pos, nat_abs, ◌+ℤ◌, ◌-ℤ◌, if◌then◌else◌};
 ghost use Rattle.std.specs.Int.Signed.{non_neg};
-ghost use Rattle.numbers.specs.Choice.{if◌then◌else◌};
 ghost use Rattle.numbers.specs.Numbers.{half_limit, word_limit, half_of, half_at, number_of, is_within, count_of, sum_of, relation_of};
 
 // The ends of n.

@@ -1,7 +1,6 @@
 -- The eight actions of section 5.4 on the tables of a round. The definitions go over the tables as the code does, routine by routine.
-use Rattle.std.specs.Prelude.{ℕ, Bool, false, ◌&&◌, ◌||◌, not, List, [], ◌∷◌, eqb, get_or}
+use Rattle.std.specs.Prelude.{ℕ, Bool, false, ◌&&◌, ◌||◌, not, List, [], ◌∷◌, eqb, get_or, if◌then◌else◌}
 use Rattle.std.proofs.lemmas.List.Edits.{sets}
-use Rattle.numbers.specs.Choice.{if◌then◌else◌}
 use Rattle.lines.specs.declared.Line.{Line}
 use Rattle.lines.specs.Lines.{empty, pushed, entries_of, appended}
 use Rattle.game.specs.declared.Routine.{Routine}

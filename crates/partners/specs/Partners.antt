@@ -1,7 +1,6 @@
 -- Where the partner of an opening step is: document 01, "The book", on blocks.
-use Rattle.std.specs.Prelude.{ℕ, zero, suc, ◌+◌, ◌-◌, ◌||◌, List, eqb}
+use Rattle.std.specs.Prelude.{ℕ, zero, suc, ◌+◌, ◌-◌, ◌||◌, List, eqb, if◌then◌else◌}
 use Rattle.kinds.specs.Ops.{op_if, op_else, op_while, op_end}
-use Rattle.numbers.specs.Choice.{if◌then◌else◌}
 use Rattle.kinds.specs.Steps.{op_at}
 
 -- "The search for an opening step's partner skips inner pairs and stops at the first marker that matches."

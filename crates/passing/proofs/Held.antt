@@ -14,7 +14,7 @@ use lib.Dec.{lit≤, ltb, eqb}
 use lib.IntN.{ℤ}
 use lib.ListN.{length, get_or, set, length-set}
 use lib.Seq.{take-suc-set}
-use Rattle.numbers.specs.Choice.{if◌then◌else◌}
+use Rattle.std.specs.Prelude.{if◌then◌else◌}
 use Rattle.numbers.specs.declared.Sum.{Sum}
 use Rattle.layout.specs.Layout.{most_routines}
 use Rattle.lines.specs.Lines.{most_entries, pushed}

@@ -1,6 +1,5 @@
 -- What an effect does to the tables, and to the marks.
-use Rattle.std.specs.Prelude.{ℕ, ◌+◌, ◌<◌, Bool, ◌&&◌, not, List, [], ◌∷◌, ltb, eqb, get_or, set, ℤ}
-use Rattle.numbers.specs.Choice.{if◌then◌else◌}
+use Rattle.std.specs.Prelude.{ℕ, ◌+◌, ◌<◌, Bool, ◌&&◌, not, List, [], ◌∷◌, ltb, eqb, get_or, set, ℤ, if◌then◌else◌}
 use Rattle.numbers.specs.Numbers.{word_limit}
 use Rattle.layout.specs.Layout.{most_routines, most_signals, most_counters}
 use Rattle.lines.specs.Lines.{most_entries, is_in}

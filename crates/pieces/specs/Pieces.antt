@@ -1,6 +1,5 @@
 -- A text that is read in pieces.
-use Rattle.std.specs.Prelude.{ℕ, zero, suc, ◌-◌, List, ◌++◌, eqb, length, get_or, drop}
-use Rattle.numbers.specs.Choice.{if◌then◌else◌}
+use Rattle.std.specs.Prelude.{ℕ, zero, suc, ◌-◌, List, ◌++◌, eqb, length, get_or, drop, if◌then◌else◌}
 
 -- the byte that ends a line
 abbrev pub line_end : ℕ

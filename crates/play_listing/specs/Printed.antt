@@ -1,7 +1,6 @@
 -- What the program `rounds` prints for a book: document 01, "Set plays", its last part. "The program `rounds` .. plays until every listed
 -- routine has ended with none to start, at most 100 rounds."
-use Rattle.std.specs.Prelude.{ℕ, zero, suc, ◌+◌, ◌*◌, ◌≤◌, ◌≡◌, Bool, true, ◌&&◌, not, ◌⊎◌, List, [], ◌∷◌, ◌++◌, map, eqb, ℤ, pos, length, replicate, take}
-use Rattle.numbers.specs.Choice.{if◌then◌else◌}
+use Rattle.std.specs.Prelude.{ℕ, zero, suc, ◌+◌, ◌*◌, ◌≤◌, ◌≡◌, Bool, true, ◌&&◌, not, ◌⊎◌, List, [], ◌∷◌, ◌++◌, map, eqb, ℤ, pos, length, replicate, take, if◌then◌else◌}
 use Rattle.kinds.specs.Steps.{step_bytes}
 use Rattle.layout.specs.Layout.{header_bytes, entry_bytes, most_routines, most_steps}
 use Rattle.game.specs.declared.Game.{Game}

@@ -1,8 +1,7 @@
 #![tactic(auto)]
 // Playing a round: the fifth call.
-ghost use Rattle.std.specs.Prelude.{◌≡◌, List, ◌≤◌, length, eqb, ℤ};
+ghost use Rattle.std.specs.Prelude.{◌≡◌, List, ◌≤◌, length, eqb, ℤ, if◌then◌else◌};
 ghost use Rattle.kinds.specs.Ops.{op_mark};
-ghost use Rattle.numbers.specs.Choice.{if◌then◌else◌};
 ghost use Rattle.layout.specs.Layout.{steps_of, most_steps};
 ghost use Rattle.verdicts.specs.Verdicts.{accepted};
 ghost use Rattle.book.specs.Book.{steps_part};

@@ -1,6 +1,5 @@
 -- What the readers find, and how the definitions of blocks say the same.
-use Rattle.std.specs.Prelude.{ℕ, ◌+◌, min, ◌≡◌, List, ltb, ℤ}
-use Rattle.numbers.specs.Choice.{if◌then◌else◌}
+use Rattle.std.specs.Prelude.{ℕ, ◌+◌, min, ◌≡◌, List, ltb, ℤ, if◌then◌else◌}
 use Rattle.kinds.specs.Steps.{steps_in}
 use Rattle.kinds.specs.Limits.{step_within}
 use Rattle.forms.specs.declared.Form.{Form}

@@ -11,7 +11,7 @@ use borrow.Author.Tests.{ne_eqb}
 use lib.Dec.{eqb}
 use lib.ListN.{length}
 use Rattle.kinds.specs.Ops.{op_mark}
-use Rattle.numbers.specs.Choice.{if◌then◌else◌}
+use Rattle.std.specs.Prelude.{if◌then◌else◌}
 use Rattle.numbers.specs.Counting.{how_many}
 use Rattle.numbers.proofs.Tests.{clash, neither}
 use Rattle.layout.specs.Layout.{counts_of}

@@ -11,7 +11,7 @@ use lib.Dec.{eqb}
 use lib.ListN.{get_or}
 use lib.IntN.{ℤ, pos}
 use lib.Signed.{le_z_yes}
-use Rattle.numbers.specs.Choice.{if◌then◌else◌}
+use Rattle.std.specs.Prelude.{if◌then◌else◌}
 use Rattle.numbers.specs.Numbers.{CounterInRange, sum_of, relation_of}
 use Rattle.numbers.specs.Sums.{AddsUp, within, above, below}
 use Rattle.numbers.proofs.Sums.{adds_up, most_lost_by_one, lost_by_one}

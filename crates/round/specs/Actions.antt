@@ -1,6 +1,5 @@
 -- How a round begins. Document 01: "A round first does the eight actions of section 5.4 in order, so a resume comes before a suspend."
-use Rattle.std.specs.Prelude.{ℕ, Bool, false, ◌&&◌, ◌||◌, not, List, [], ◌∷◌, map, eqb, get_or, set, replicate}
-use Rattle.numbers.specs.Choice.{if◌then◌else◌}
+use Rattle.std.specs.Prelude.{ℕ, Bool, false, ◌&&◌, ◌||◌, not, List, [], ◌∷◌, map, eqb, get_or, set, replicate, if◌then◌else◌}
 use Rattle.layout.specs.Layout.{most_signals}
 use Rattle.game.specs.declared.Routine.{Routine}
 use Rattle.game.specs.declared.Game.{Game}

@@ -1,7 +1,6 @@
 -- What playing a round answers: document 01, "Turned down because of the input" and "Turned down because of the state".
-use Rattle.std.specs.Prelude.{ℕ, ◌*◌, List, [], ◌∷◌, ◌++◌, eqb, leb, length, drop, ℤ, pos}
+use Rattle.std.specs.Prelude.{ℕ, ◌*◌, List, [], ◌∷◌, ◌++◌, eqb, leb, length, drop, ℤ, pos, if◌then◌else◌}
 use Rattle.kinds.specs.Ops.{op_mark}
-use Rattle.numbers.specs.Choice.{if◌then◌else◌}
 use Rattle.numbers.specs.Counting.{count_below}
 use Rattle.kinds.specs.Steps.{op_at}
 use Rattle.verdicts.specs.declared.Verdict.{Verdict}

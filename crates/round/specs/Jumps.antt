@@ -1,8 +1,7 @@
 -- Where the steps that hold blocks lead, and their markers. Document 01: "A place on an else stands for the end of the first block, on a
 -- while's end for its next test."
-use Rattle.std.specs.Prelude.{ℕ, zero, suc, ◌+◌, ◌-◌, ◌||◌, List, eqb}
+use Rattle.std.specs.Prelude.{ℕ, zero, suc, ◌+◌, ◌-◌, ◌||◌, List, eqb, if◌then◌else◌}
 use Rattle.kinds.specs.Ops.{op_if, op_while, op_end}
-use Rattle.numbers.specs.Choice.{if◌then◌else◌}
 use Rattle.kinds.specs.Steps.{op_at, steps_in}
 use Rattle.partners.specs.Partners.{partner_of}
 

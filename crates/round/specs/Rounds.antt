@@ -1,7 +1,6 @@
 -- A turn, a pass and a round: rules 33 to 38. Document 01: "round = one chaining step and then one instant, pass = one scheduler execution
 -- step (rules 35 and 36)".
-use Rattle.std.specs.Prelude.{ℕ, zero, suc, ◌+◌, Bool, true, false, ◌&&◌, ◌||◌, not, List, [], ◌∷◌, ◌++◌, eqb, set}
-use Rattle.numbers.specs.Choice.{if◌then◌else◌}
+use Rattle.std.specs.Prelude.{ℕ, zero, suc, ◌+◌, Bool, true, false, ◌&&◌, ◌||◌, not, List, [], ◌∷◌, ◌++◌, eqb, set, if◌then◌else◌}
 use Rattle.kinds.specs.declared.Counts.{Counts}
 use Rattle.kinds.specs.Steps.{steps_in}
 use Rattle.layout.specs.Layout.{most_routines, most_steps, counts_of}

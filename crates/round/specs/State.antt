@@ -1,6 +1,5 @@
 -- What is kept while a round is played (the paper's section 2.3, with the game), and what happens in it.
-use Rattle.std.specs.Prelude.{ℕ, ◌-◌, Bool, false, ◌||◌, List, [], ◌∷◌, eqb, leb, length, get_or, ℤ, pos}
-use Rattle.numbers.specs.Choice.{if◌then◌else◌}
+use Rattle.std.specs.Prelude.{ℕ, ◌-◌, Bool, false, ◌||◌, List, [], ◌∷◌, eqb, leb, length, get_or, ℤ, pos, if◌then◌else◌}
 use Rattle.game.specs.declared.Game.{Game}
 use Rattle.game.specs.Game.{routine_at}
 use Rattle.game.specs.Game as stage

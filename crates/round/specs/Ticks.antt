@@ -1,6 +1,5 @@
 -- One step of one routine: rules 1 to 32, in the order of document 01's table of kinds. What a step comes to stands apart from its effect.
-use Rattle.std.specs.Prelude.{ℕ, ◌+◌, ◌-◌, true, false, ◌&&◌, not, List, [], ◌∷◌, ◌++◌, eqb, length, set, ℤ}
-use Rattle.numbers.specs.Choice.{if◌then◌else◌}
+use Rattle.std.specs.Prelude.{ℕ, ◌+◌, ◌-◌, true, false, ◌&&◌, not, List, [], ◌∷◌, ◌++◌, eqb, length, set, ℤ, if◌then◌else◌}
 use Rattle.numbers.specs.Numbers.{sum_of, relation_of}
 use Rattle.kinds.specs.declared.Kind.{Kind}
 use Rattle.kinds.specs.declared.Kind.TheVariants as kind

@@ -10,7 +10,7 @@ use lib.Dec.{eqb}
 use lib.ListN.{set}
 use lib.Seq.{map-set_same}
 use lib.IntN.{ℤ}
-use Rattle.numbers.specs.Choice.{if◌then◌else◌}
+use Rattle.std.specs.Prelude.{if◌then◌else◌}
 use Rattle.numbers.specs.declared.Sum.{Sum}
 use Rattle.numbers.proofs.Tests.{and_both}
 use Rattle.layout.specs.Layout.{most_routines}

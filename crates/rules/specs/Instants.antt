@@ -1,7 +1,6 @@
 -- Rules 33 to 38 of the paper, and section 5.4: threads, execution steps, instants, and how they follow each other.
-use Rattle.std.specs.Prelude.{ℕ, ◌≡◌, Bool, true, false, ◌&&◌, ◌||◌, not, ◌≢◌, ◌⊎◌, eqb, set}
+use Rattle.std.specs.Prelude.{ℕ, ◌≡◌, Bool, true, false, ◌&&◌, ◌||◌, not, ◌≢◌, ◌⊎◌, eqb, set, if◌then◌else◌}
 use mathlib.Core.List.{List, [], ◌∷◌, ◌++◌, map, zip_with}
-use Rattle.numbers.specs.Choice.{if◌then◌else◌}
 use Rattle.rules.specs.Instructions.{Status, TERM, COOP, CONT, term, Instruction}
 use Rattle.rules.specs.Schedulers.{Stage, not_started, continuing, rested, ended, stopped, stage_by, Scheduler, with_actual}
 use Rattle.rules.specs.Schedulers.{with_current, with_orders, with_threads, with_nothing_lost, has, status_of, with_move, with_signal}

@@ -1,6 +1,5 @@
 -- Where a round leaves a routine, by what its thread did.
-use Rattle.std.specs.Prelude.{ℕ, ◌+◌, [], ◌∷◌, eqb}
-use Rattle.numbers.specs.Choice.{if◌then◌else◌}
+use Rattle.std.specs.Prelude.{ℕ, ◌+◌, [], ◌∷◌, eqb, if◌then◌else◌}
 use Rattle.round.specs.declared.Position.{Position}
 use Rattle.round.specs.Ticks.{fresh, begun_at}
 use Rattle.rules.specs.Instructions.{Pause, rests, rests_for, misses, misses_for, unread, TERM, COOP}

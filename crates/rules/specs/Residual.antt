@@ -2,8 +2,7 @@
 -- Document 01: "A place on an else stands for the end of the first block, on a while's end for its next test.", "Op 6, or a reading that
 -- stayed missing, leaves the place on the step that follows it in the book; every other pause leaves it on its own step. An ended routine's
 -- place is its step count. Begun is set when op 7, 9 or 11 pauses, and cleared when that step is past."
-use Rattle.std.specs.Prelude.{ℕ, ◌<◌, List, eqb, ltb, pos}
-use Rattle.numbers.specs.Choice.{if◌then◌else◌}
+use Rattle.std.specs.Prelude.{ℕ, ◌<◌, List, eqb, ltb, pos, if◌then◌else◌}
 use Rattle.kinds.specs.declared.Kind.{Kind}
 use Rattle.kinds.specs.declared.Kind.TheVariants as kind
 use Rattle.kinds.specs.declared.Step.{Step}

@@ -1,7 +1,6 @@
 -- The scheduler that a game stands for, and a state of a round; a routine's position is not in it. A game has neither marks nor a total of
 -- what was cut off, so both are beside it; a state has the total.
-use Rattle.std.specs.Prelude.{ℕ, false, List, [], map, eqb, ℤ}
-use Rattle.numbers.specs.Choice.{if◌then◌else◌}
+use Rattle.std.specs.Prelude.{ℕ, false, List, [], map, eqb, ℤ, if◌then◌else◌}
 use Rattle.lines.specs.Lines.{entries_of}
 use Rattle.game.specs.declared.Game.{Game}
 use Rattle.game.specs.Game.{continuing, rested, ended, not_started}

@@ -1,7 +1,6 @@
 -- Sections 2.1 and 2.3 of the paper: schedulers, with their threads and the environment, and what the rules change in them.
 -- A set of events or threads is a list of flags, one for each number there can be; a vector is a list.
-use Rattle.std.specs.Prelude.{ℕ, ◌+◌, ◌-◌, Bool, true, false, ◌&&◌, ◌||◌, not, List, [], ◌∷◌, ◌++◌, eqb, get_or, set, ℤ, pos}
-use Rattle.numbers.specs.Choice.{if◌then◌else◌}
+use Rattle.std.specs.Prelude.{ℕ, ◌+◌, ◌-◌, Bool, true, false, ◌&&◌, ◌||◌, not, List, [], ◌∷◌, ◌++◌, eqb, get_or, set, ℤ, pos, if◌then◌else◌}
 use Rattle.numbers.specs.Sums.{AddsUp}
 use Rattle.rules.specs.Instructions.{Status, TERM, COOP, CONT, Signal, signal, term, Call, mark, set as set_to, add, take}
 

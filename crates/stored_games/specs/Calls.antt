@@ -1,6 +1,5 @@
 -- What storing a game and reading it back answer: document 02, Paper 2.
-use Rattle.std.specs.Prelude.{ℕ, List, eqb, leb, length}
-use Rattle.numbers.specs.Choice.{if◌then◌else◌}
+use Rattle.std.specs.Prelude.{ℕ, List, eqb, leb, length, if◌then◌else◌}
 use Rattle.numbers.specs.Buffers.{with_front}
 use Rattle.verdicts.specs.declared.Verdict.{Verdict}
 use Rattle.verdicts.specs.Verdicts.{refused, ◌or_else◌, unless}

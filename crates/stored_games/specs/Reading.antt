@@ -1,6 +1,5 @@
 -- Bytes read as a stored game, and which of them have its form: document 02, Paper 2. Bytes past the end count as 0.
-use Rattle.std.specs.Prelude.{ℕ, ◌+◌, ◌*◌, ◌/◌, ◌%◌, Bool, false, ◌&&◌, not, List, leb, ltb, eqb, length, get_or, take, drop, pos}
-use Rattle.numbers.specs.Choice.{if◌then◌else◌}
+use Rattle.std.specs.Prelude.{ℕ, ◌+◌, ◌*◌, ◌/◌, ◌%◌, Bool, false, ◌&&◌, not, List, leb, ltb, eqb, length, get_or, take, drop, pos, if◌then◌else◌}
 use Rattle.numbers.specs.Numbers.{half_at, signed}
 use Rattle.numbers.specs.Bytes.{word_at}
 use Rattle.numbers.specs.Counting.{all_below, all_from, list_below}

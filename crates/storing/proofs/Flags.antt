@@ -7,7 +7,7 @@ use native.Mathlib.Nat.{zero-add, add-zero, pow-le-pow_right}
 use native.Mathlib.Omega.{arith}
 use lib.Dec.{lit<}
 use lib.ListN.{get_or}
-use Rattle.numbers.specs.Choice.{if◌then◌else◌}
+use Rattle.std.specs.Prelude.{if◌then◌else◌}
 use Rattle.numbers.specs.Counting.{list_below}
 use Rattle.numbers.proofs.Left.{more_left}
 use Rattle.numbers.proofs.Lists.{below_length, values_same}

@@ -1,7 +1,6 @@
 // Flags as bits of a number, lowest first.
-ghost use Rattle.std.specs.Prelude.{◌≡◌, false, ◌+◌, ◌*◌, ◌<◌, length, get_or};
+ghost use Rattle.std.specs.Prelude.{◌≡◌, false, ◌+◌, ◌*◌, ◌<◌, length, get_or, if◌then◌else◌};
 ghost use Rattle.layout.specs.Layout.{most_signals};
-ghost use Rattle.numbers.specs.Choice.{if◌then◌else◌};
 ghost use Rattle.numbers.specs.Numbers.{half_limit};
 ghost use Rattle.stored_games.specs.Stored.{flags_of, set_byte};
 

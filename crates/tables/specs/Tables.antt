@@ -1,6 +1,5 @@
 -- The tables of a round, and the state that they hold.
-use Rattle.std.specs.Prelude.{ℕ, ◌+◌, ◌*◌, ◌/◌, ◌≤◌, ◌≡◌, Bool, false, List, [], ◌∷◌, ltb, eqb, length, get_or, set, take, drop, ℤ, pos, negsuc}
-use Rattle.numbers.specs.Choice.{if◌then◌else◌}
+use Rattle.std.specs.Prelude.{ℕ, ◌+◌, ◌*◌, ◌/◌, ◌≤◌, ◌≡◌, Bool, false, List, [], ◌∷◌, ltb, eqb, length, get_or, set, take, drop, ℤ, pos, negsuc, if◌then◌else◌}
 use Rattle.numbers.specs.Numbers.{word_limit}
 use Rattle.numbers.specs.Counting.{list_below}
 use Rattle.layout.specs.Layout.{most_routines, most_signals}

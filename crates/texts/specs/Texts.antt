@@ -1,9 +1,8 @@
 -- Texts that are put one behind another into a lent buffer, and what numbers are as text.
-use Rattle.std.specs.Prelude.{ℕ, zero, suc, ◌+◌, ◌/◌, ◌%◌, List, [], ◌∷◌, ◌++◌, ltb, ℤ, pos, negsuc, length, set}
+use Rattle.std.specs.Prelude.{ℕ, zero, suc, ◌+◌, ◌/◌, ◌%◌, List, [], ◌∷◌, ◌++◌, ltb, ℤ, pos, negsuc, length, set, if◌then◌else◌}
 use Prim.Native.Char.{code}
 use Prim.Native.String.{String, [] as no_more, ◌∷◌ as ◌before◌}
 use Rattle.io.specs.Digits.{hex_digit_ascii}
-use Rattle.numbers.specs.Choice.{if◌then◌else◌}
 use Rattle.digits.specs.Digits.{minus}
 
 -- the bytes of a text in quotes

@@ -1,6 +1,5 @@
 -- What a step comes to, as the code that plays asks for it: of accepted steps, whose kinds are known without the book's counts.
-use Rattle.std.specs.Prelude.{ℕ, ◌<◌, ◌≡◌, List, [], ◌∷◌, ltb, ℤ}
-use Rattle.numbers.specs.Choice.{if◌then◌else◌}
+use Rattle.std.specs.Prelude.{ℕ, ◌<◌, ◌≡◌, List, [], ◌∷◌, ltb, ℤ, if◌then◌else◌}
 use Rattle.numbers.specs.Numbers.{word_limit}
 use Rattle.kinds.specs.declared.Kind.{Kind}
 use Rattle.kinds.specs.declared.Kind.TheVariants as kind

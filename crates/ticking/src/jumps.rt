@@ -1,6 +1,5 @@
 // Where the steps that hold blocks lead, and their markers.
-ghost use Rattle.std.specs.Prelude.{◌≡◌, ◌+◌, ◌<◌, ◌≤◌, eqb};
-ghost use Rattle.numbers.specs.Choice.{if◌then◌else◌};
+ghost use Rattle.std.specs.Prelude.{◌≡◌, ◌+◌, ◌<◌, ◌≤◌, eqb, if◌then◌else◌};
 ghost use Rattle.numbers.specs.Numbers.{relation_of};
 ghost use Rattle.kinds.specs.Steps.{steps_in};
 ghost use Rattle.round.specs.Jumps.{past_partner, opening_before, from_end};

@@ -1,6 +1,5 @@
 // The steps that may halt the turn: counted rests, and those that ask for a signal, a routine's end or a number.
-ghost use Rattle.std.specs.Prelude.{◌≡◌, ◌||◌, false, ◌+◌, ◌-◌, ◌*◌, ◌/◌, ◌<◌, ◌≤◌, ◌^◌, ltb, leb, eqb, pos, length, get_or, take};
-ghost use Rattle.numbers.specs.Choice.{if◌then◌else◌};
+ghost use Rattle.std.specs.Prelude.{◌≡◌, ◌||◌, false, ◌+◌, ◌-◌, ◌*◌, ◌/◌, ◌<◌, ◌≤◌, ◌^◌, ltb, leb, eqb, pos, length, get_or, take, if◌then◌else◌};
 ghost use Rattle.layout.specs.Layout.{most_signals};
 ghost use Rattle.tables.specs.Tables.{stages_row, ends_row, row_at, first_of_pair, pairs_of};
 ghost use Rattle.round.specs.State.{counts_as_ended, numbers_with};

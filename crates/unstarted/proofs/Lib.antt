@@ -5,3 +5,4 @@ pub mod Finding
 pub mod Searching
 pub mod Decides
 pub mod Names
+pub mod Examples

@@ -1,10 +1,7 @@
--- The names of a few books, by evaluation: a start counts in a block, in a while and behind a rest, and one in a routine that nobody starts
--- does not.
-use Rattle.std.specs.Prelude.{◌≡◌, refl, List, [], ◌∷◌, map, ℕ, pos}
-use Rattle.numbers.specs.Counting.{sum_below}
-use Rattle.directory.specs.Directory.{routine_part, steps_before}
-use Rattle.book.specs.Written.{equal, mark, rest, start, if, else, while, end, directory, book}
-use Rattle.unstarted.specs.Unstarted.{with_steps, found_from, found_in, not_found, names_of}
+-- The names of a few books: a start counts in a block, in a while and behind a rest, and one in a routine that nobody starts does not. That
+-- they are these is shown in proofs/Examples.antt, by evaluation.
+use Rattle.std.specs.Prelude.{List, [], ◌∷◌, ℕ, pos}
+use Rattle.book.specs.Written.{equal, mark, rest, start, if, else, while, end, book}
 
 -- a book, and its routines that nobody starts
 pub record Example : Type 0 where
@@ -34,7 +31,3 @@ examples =
       names = 4 ∷ [];
     }
     ∷ []
-
-pub as_named : map (λ e. names_of e.book) examples ≡ map (λ e. e.names) examples
-unfolding not_found found_in found_from with_steps routine_part steps_before sum_below directory
-as_named = refl

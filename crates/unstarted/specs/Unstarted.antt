@@ -1,7 +1,6 @@
 -- The routines that nobody starts: document 02, Paper 1. From routine 0 on, the starts of each routine that is found are noted, a routine's
 -- steps once.
-use Rattle.std.specs.Prelude.{ℕ, zero, suc, ◌+◌, Bool, true, false, ◌||◌, not, List, [], ◌∷◌, eqb, leb, ltb, length, get_or, set, replicate}
-use Rattle.numbers.specs.Choice.{if◌then◌else◌}
+use Rattle.std.specs.Prelude.{ℕ, zero, suc, ◌+◌, Bool, true, false, ◌||◌, not, List, [], ◌∷◌, eqb, leb, ltb, length, get_or, set, replicate, if◌then◌else◌}
 use Rattle.numbers.specs.Numbers.{byte_limit}
 use Rattle.numbers.specs.Buffers.{with_front}
 use Rattle.kinds.specs.Ops.{op_start}

@@ -1,6 +1,5 @@
 -- What a call tells: document 01, "Turned down because of the input" and "Turned down because of the state".
-use Rattle.std.specs.Prelude.{ℕ, zero, suc, ◌+◌, Bool, eqb}
-use Rattle.numbers.specs.Choice.{if◌then◌else◌}
+use Rattle.std.specs.Prelude.{ℕ, zero, suc, ◌+◌, Bool, eqb, if◌then◌else◌}
 use Rattle.verdicts.specs.declared.Verdict.{Verdict}
 use Rattle.verdicts.specs.declared.BookAnswer.{BookAnswer}
 use Rattle.verdicts.specs.declared.BookAnswer.TheVariants.{Accepted, TooShort, WrongCount, WrongLayout, WrongEntry, WrongStep}

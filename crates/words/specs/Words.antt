@@ -1,6 +1,5 @@
 -- The words of a line of text.
-use Rattle.std.specs.Prelude.{ℕ, zero, suc, ◌+◌, ◌-◌, Bool, ◌&&◌, List, eqb, ltb, length, get_or, take, drop}
-use Rattle.numbers.specs.Choice.{if◌then◌else◌}
+use Rattle.std.specs.Prelude.{ℕ, zero, suc, ◌+◌, ◌-◌, Bool, ◌&&◌, List, eqb, ltb, length, get_or, take, drop, if◌then◌else◌}
 use Rattle.numbers.specs.Counting.{all_below}
 
 abbrev pub space : ℕ

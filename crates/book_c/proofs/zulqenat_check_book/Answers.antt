@@ -1,6 +1,5 @@
 -- `book_c::zulqenat_check_book` meets its contract: the verdict of what reading the book answers, by the contracts of the two calls.
 use mathlib.Core.Path.{◌∙◌}
-use borrow.Author.Rules.{rules}
 use Rattle.book_c.proofs.zulqenat_check_book.Goals as goal
 
 pub returns : goal.returns

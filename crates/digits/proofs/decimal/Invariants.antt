@@ -1,15 +1,9 @@
 -- `digits::decimal` meets its contract. The loop's invariant: the value and the rest of the word give what the whole word gives,
 -- and the value fits 32 bits, so that with one digit more it fits 64. The measure is what is left of the word.
-use Prim.Native.Nat.{ℕ, ◌+◌, ◌-◌, ◌*◌, ◌≤◌, ◌<◌}
-use mathlib.Core.List.{List}
-use mathlib.Core.Path.{◌≡◌, sym, ◌∙◌}
-use native.Mathlib.Nat.{sub-zero, sub-eq-zero_of_le}
-use lib.ListN.{length, get_or}
-use borrow.Author.Rules.{rules}
-use borrow.Author.Tests.{eq-eqb, ne_eqb, le-leb, lt-leb}
-use Rattle.numbers.proofs.Left.{more_left}
-use Rattle.digits.specs.declared.Number.TheVariants as number
-use Rattle.digits.specs.Digits.{digit_of, largest, decimal_from, decimal_of}
+use Prim.Native.Nat.{◌-◌, ◌≤◌}
+use mathlib.Core.Path.{◌≡◌}
+use lib.ListN.{length}
+use Rattle.digits.specs.Digits.{largest, decimal_from}
 use Rattle.digits.proofs.decimal.Given as goal
 
 abbrev pub invariant-loop-at : goal.invariant-loop-at

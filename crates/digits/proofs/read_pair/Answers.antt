@@ -3,10 +3,8 @@
 use Prim.Native.Nat.{ℕ}
 use mathlib.Core.Bool.{Bool, true, false}
 use mathlib.Core.List.{List}
-use mathlib.Core.Logic.{⊎_elim}
 use mathlib.Core.Path.{◌≡◌, refl, ◌∙◌, ap}
-use borrow.Author.Rules.{rules}
-use Rattle.numbers.specs.Choice.{if◌then◌else◌}
+use Rattle.std.specs.Prelude.{if◌then◌else◌}
 use Rattle.digits.specs.declared.Number.{Number}
 use Rattle.digits.specs.declared.Number.TheVariants as number
 use Rattle.digits.specs.declared.Pair.TheVariants as pair
@@ -48,7 +46,7 @@ pub returns-in_default-other : goal.returns-in_default-other
 returns-in_default-other c =
     let one = first_number _ _ _ c.first.ensures c.decimal.ensures in
     let two : c.if-negative.other ≡ second_of c.args.text.now c.args.negative = elim c.if-negative.branch [
-      then-negative w ↦ rw w.other-is (second_signed _ _ _ c.rest-last.ensures _ w.if-negative.true w.signed-other.ensures)
+      | then-negative w ↦ rw w.other-is (second_signed _ _ _ c.rest-last.ensures _ w.if-negative.true w.signed-other.ensures)
       | else-negative w ↦ rw w.other-is (second_decimal _ _ _ c.rest-last.ensures _ w.if-negative.false w.decimal-other.ensures)
     ] in
     rw (both _ _ _ one _ two, c.in-Value.is, c.in_default-other.is)
@@ -57,7 +55,7 @@ pub returns : goal.returns
 returns c =
     let one = first_number _ _ _ c.first.ensures c.decimal.ensures in
     let two : c.if-negative.other ≡ second_of c.args.text.now c.args.negative = elim c.if-negative.branch [
-      then-negative w ↦ rw w.other-is (second_signed _ _ _ c.rest-last.ensures _ w.if-negative.true w.signed-other.ensures)
+      | then-negative w ↦ rw w.other-is (second_signed _ _ _ c.rest-last.ensures _ w.if-negative.true w.signed-other.ensures)
       | else-negative w ↦ rw w.other-is (second_decimal _ _ _ c.rest-last.ensures _ w.if-negative.false w.decimal-other.ensures)
     ] in
     rw (both _ _ _ one _ two, c.in-Value.is, c.in-Value-other.is)

@@ -1,6 +1,6 @@
 -- `directory::check_directory` meets its contract. The invariant: the search for the first wrong entry from `routine` on is the whole
 -- search, and `sum` is the sum of the counts before `routine`.
-use Prim.Native.Nat.{ℕ, ◌+◌, ◌-◌, ◌*◌, ◌<◌, ◌≤◌}
+use Prim.Native.Nat.{ℕ, ◌+◌, ◌<◌, ◌≤◌}
 use mathlib.Core.Path.{◌≡◌, refl, sym, ◌∙◌}
 use mathlib.Core.List.{List}
 use native.Mathlib.Omega.{arith}
@@ -8,10 +8,8 @@ use native.Mathlib.Numerals.{add-one}
 use borrow.Author.Rules.{rules}
 use borrow.Author.Tests.{eq-eqb, ne_eqb}
 use lib.Dec.{eqb}
-use Rattle.numbers.specs.Choice.{if◌then◌else◌}
-use Rattle.numbers.specs.Numbers.{half_limit}
+use Rattle.std.specs.Prelude.{if◌then◌else◌}
 use Rattle.numbers.specs.Counting.{sum_below}
-use Rattle.verdicts.specs.declared.Verdict.{Verdict}
 use Rattle.verdicts.specs.Verdicts.{accepted, refused, first_refusal}
 use Rattle.layout.specs.Layout.{routines_of, steps_of}
 use Rattle.directory.specs.Directory.{first_step, step_count, steps_before, entry_verdict, directory_verdict}

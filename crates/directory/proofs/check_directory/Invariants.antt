@@ -1,21 +1,12 @@
 -- `directory::check_directory` meets its contract. The invariant: the search for the first wrong entry from `routine` on is the whole
 -- search, and `sum` is the sum of the counts before `routine`.
-use Prim.Native.Nat.{ℕ, ◌+◌, ◌-◌, ◌*◌, ◌<◌, ◌≤◌}
-use mathlib.Core.Path.{◌≡◌, refl, sym, ◌∙◌}
+use Prim.Native.Nat.{ℕ, ◌-◌, ◌*◌, ◌≤◌}
+use mathlib.Core.Path.{◌≡◌}
 use mathlib.Core.List.{List}
-use native.Mathlib.Omega.{arith}
-use native.Mathlib.Numerals.{add-one}
-use borrow.Author.Rules.{rules}
-use borrow.Author.Tests.{eq-eqb, ne_eqb}
-use lib.Dec.{eqb}
-use Rattle.numbers.specs.Choice.{if◌then◌else◌}
 use Rattle.numbers.specs.Numbers.{half_limit}
-use Rattle.numbers.specs.Counting.{sum_below}
 use Rattle.verdicts.specs.declared.Verdict.{Verdict}
-use Rattle.verdicts.specs.Verdicts.{accepted, refused, first_refusal}
-use Rattle.layout.specs.Layout.{routines_of, steps_of}
-use Rattle.directory.specs.Directory.{first_step, step_count, steps_before, entry_verdict, directory_verdict}
-use Rattle.verdicts.proofs.First.{first_begins, first_stops, first_goes, first_ends}
+use Rattle.verdicts.specs.Verdicts.{first_refusal}
+use Rattle.directory.specs.Directory.{steps_before, entry_verdict}
 use Rattle.directory.proofs.check_directory.Given as goal
 
 -- the search from routine r on

@@ -1,6 +1,5 @@
 -- `forms::form_of` meets its contract. In each arm the kind is known, so that the contract's form computes;
 -- at a rest for n the code's test of n is the contract's.
-use borrow.Author.Rules.{rules}
 use borrow.Author.Tests.{ne_eqb}
 use Rattle.forms.proofs.form_of.Goals as goal
 

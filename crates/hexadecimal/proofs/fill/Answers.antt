@@ -6,7 +6,6 @@ use mathlib.Core.Path.{◌≡◌, sym, ◌∙◌}
 use native.Mathlib.Nat.{sub-zero, sub-eq-zero_of_le}
 use native.Mathlib.Omega.{arith}
 use lib.ListN.{set}
-use borrow.Author.Rules.{rules}
 use Rattle.numbers.proofs.Left.{more_left}
 use Rattle.hexadecimal.specs.Hex.{byte_of, written_from}
 use Rattle.hexadecimal.proofs.fill.Goals as goal

@@ -7,7 +7,6 @@ use mathlib.Core.Path.{◌≡◌, sym, ◌∙◌}
 use native.Mathlib.Omega.{arith}
 use lib.Dec.{eqb, ltb, leb}
 use lib.ListN.{length}
-use borrow.Author.Rules.{rules}
 use borrow.Author.Tests.{leb-true}
 use Rattle.hexadecimal.specs.declared.Bytes.TheVariants as bytes
 use Rattle.digits.specs.Digits.{minus}

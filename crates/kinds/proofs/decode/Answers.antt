@@ -14,7 +14,7 @@ use lib.IntN.{ℤ, pos}
 use lib.Signed.{le_z, lt_z}
 use mir.Facts.{to_z-of_z, to_z_pos}
 use Rattle.numbers.specs.Numbers.{half_limit}
-use Rattle.numbers.specs.Choice.{if◌then◌else◌}
+use Rattle.std.specs.Prelude.{if◌then◌else◌}
 use Rattle.numbers.proofs.Tests.{turned}
 use Rattle.kinds.specs.declared.Step.TheVariants.{Kind, Refused}
 use Rattle.kinds.specs.Steps.{kind_of}

@@ -1,5 +1,4 @@
 -- `layout::counts_of` meets its contract: each field is the count that its reader ensures.
-use borrow.Author.Rules.{rules}
 use Rattle.layout.proofs.counts_of.Goals as goal
 
 pub returns : goal.returns

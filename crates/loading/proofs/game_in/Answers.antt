@@ -6,7 +6,6 @@ use mathlib.Core.Path.{◌≡◌}
 use mathlib.Core.Bool.{true}
 use Rattle.stored_games.specs.declared.Form.{Form}
 use native.Mathlib.Omega.{arith}
-use borrow.Author.Rules.{rules}
 use Rattle.stored_games.specs.Reading.{game_in, is_formed}
 use Rattle.stored_games.specs.Formed.{Formed}
 use Rattle.stored_games.proofs.Decides.{formed_decides}

@@ -1,5 +1,4 @@
 -- `loading::load` meets its contract: form 1 is one that the calls are made for, and a game that is read fits its book.
-use borrow.Author.Rules.{rules}
 use Rattle.fitting.proofs.Outcomes.{promised}
 use Rattle.stored_games.proofs.Forms.{form1_usable}
 use Rattle.stored_games.proofs.Keeping.{load_fits}

@@ -4,14 +4,10 @@ use Prim.Native.Nat.{ℕ}
 use mathlib.Core.List.{List}
 use Rattle.verdicts.specs.declared.Verdict.{Verdict}
 use mathlib.Core.Path.{◌≡◌, sym, ◌∙◌}
-use mathlib.Core.Bool.{true}
-use borrow.Author.Rules.{rules}
-use borrow.Author.Tests.{ne_eqb, not-true, not-false}
+use borrow.Author.Tests.{ne_eqb}
 use Rattle.verdicts.specs.Verdicts.{accepted}
 use Rattle.book.specs.Book.{book_verdict}
 use Rattle.book.proofs.Reasons.{number_accepted, accepted_exactly}
-use Rattle.fitting.specs.Fitting.{fits_book}
-use Rattle.stored_games.specs.Reading.{game_in, is_formed}
 use Rattle.stored_games.specs.Calls.{stored_verdict, load_verdict, loaded}
 use Rattle.loading.proofs.load_in.Goals as goal
 

@@ -1,5 +1,4 @@
 -- `loading::stored_verdict` meets its contract: form 1 is one that the calls are made for.
-use borrow.Author.Rules.{rules}
 use Rattle.stored_games.proofs.Forms.{form1_usable}
 use Rattle.loading.proofs.stored_verdict.Goals as goal
 

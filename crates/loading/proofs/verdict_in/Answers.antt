@@ -1,14 +1,8 @@
 -- `loading::verdict_in` meets its contract: the form is tested first, then whether the game fits, and each verdict is the one that the
 -- contract tells there.
-use mathlib.Core.Path.{◌≡◌, sym, ◌∙◌}
-use mathlib.Core.Bool.{true}
-use borrow.Author.Rules.{rules}
-use borrow.Author.Tests.{not-true, not-false}
-use Rattle.fitting.specs.Fitting.{fits_book}
-use Rattle.stored_games.specs.Reading.{game_in, is_formed}
+use mathlib.Core.Path.{sym, ◌∙◌}
 use Rattle.stored_games.specs.Calls.{stored_verdict}
 use Rattle.loading.proofs.verdict_in.Goals as goal
-
 
 -- past the first test the bytes have the form
 pub returns-then-not-is_formed : goal.returns-then-not-is_formed

@@ -9,7 +9,7 @@ use lib.IntN.{ℤ}
 use mir.Syntax.{w32}
 use mir.Val.{SFits}
 use mir.Facts.{to_z-of_z}
-use Rattle.numbers.specs.Choice.{if◌then◌else◌}
+use Rattle.std.specs.Prelude.{if◌then◌else◌}
 use Rattle.numbers.specs.Numbers.{relation_of}
 use Rattle.numbers.proofs.Differences.{raised_to, highest_bit, difference, less, equal, greater}
 use Rattle.numbers.proofs.relation.Goals as goal

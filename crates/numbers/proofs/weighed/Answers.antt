@@ -3,7 +3,7 @@ use Prim.Native.Nat.{ℕ, zero, suc, ◌+◌, ◌-◌, ◌*◌, ◌≤◌}
 use mathlib.Core.Path.{◌≡◌}
 use native.Mathlib.Omega.{arith}
 use lib.Dec.{eqb}
-use Rattle.numbers.specs.Choice.{if◌then◌else◌}
+use Rattle.std.specs.Prelude.{if◌then◌else◌}
 use Rattle.numbers.proofs.weighed.Goals as goal
 
 sum : (w x y : ℕ) → w ≤ 1 → x ≤ 1 → y ≤ 1 → (w * x + (1 - w) * y ≡ (if eqb w 1 then x else y)) × (w * x + (1 - w) * y ≤ 1)

@@ -6,7 +6,6 @@ use mathlib.Core.List.{List}
 use mathlib.Core.Logic.{⊎_elim, inl, inr}
 use native.Mathlib.Nat.{sub-eq-zero_of_le}
 use native.Mathlib.Omega.{arith}
-use borrow.Author.Rules.{rules}
 use borrow.Author.Tests.{ne_eqb}
 use Rattle.numbers.proofs.Left.{more_left}
 use Rattle.kinds.specs.Steps.{steps_in, op_at}
@@ -34,14 +33,14 @@ pub scan-preserved : goal.scan-preserved
 scan-preserved c =
     let h = step_on c.args.steps.now (steps_in c.args.steps.now) c.scan.depth c.scan.at _ c.if-count-at.false c.scan.invariant.0 in
     elim c.match-op.branch [
-      in-17 w ↦ (⊎_elim (λ k. rw w.depth-is (rw k at h)) (λ k. rw w.depth-is (rw k at h)) w.in-17.is, omega arith)
-    | in-18+else-depth-eq0 w ↦ (rw w.depth-is (rw (w.in-18.is, ne_eqb _ _ w.if-depth-eq0.false) at h), omega arith)
-    | in-20+else-depth-eq0-2 w ↦ (rw w.depth-is (rw (w.in-20.is, ne_eqb _ _ w.if-depth-eq0-2.false) at h), omega arith)
-    | in_default w ↦
-      let not = w.in_default.in_default-own.rest in
-      let opens = not.0.0.1 in
-      let same = simp (ne_eqb _ _ (λ e. opens (inl e)), ne_eqb _ _ (λ e. opens (inr e)), ne_eqb _ _ not.0.1, ne_eqb _ _ not.1) at h in
-      (rw w.depth-is same, omega arith)
+      | in-17 w ↦ (⊎_elim (λ k. rw w.depth-is (rw k at h)) (λ k. rw w.depth-is (rw k at h)) w.in-17.is, omega arith)
+      | in-18+else-depth-eq0 w ↦ (rw w.depth-is (rw (w.in-18.is, ne_eqb _ _ w.if-depth-eq0.false) at h), omega arith)
+      | in-20+else-depth-eq0-2 w ↦ (rw w.depth-is (rw (w.in-20.is, ne_eqb _ _ w.if-depth-eq0-2.false) at h), omega arith)
+      | in_default w ↦
+          let not = w.in_default.in_default-own.rest in
+          let opens = not.0.0.1 in
+          let same = simp (ne_eqb _ _ (λ e. opens (inl e)), ne_eqb _ _ (λ e. opens (inr e)), ne_eqb _ _ not.0.1, ne_eqb _ _ not.1) at h in
+          (rw w.depth-is same, omega arith)
     ]
 
 pub returns-then-count-at : goal.returns-then-count-at

@@ -1,16 +1,9 @@
 -- `partners::partner` meets its contract. The loop's invariant: the search from where the code is, as deep as it is, finds what
 -- the whole search finds. Each arm takes one step of it. The depth fits, since it is at most the number of steps passed.
-use Prim.Native.Nat.{ℕ, ◌+◌, ◌-◌, ◌<◌, ◌≤◌}
-use mathlib.Core.Path.{◌≡◌, sym, ◌∙◌}
-use mathlib.Core.List.{List}
-use mathlib.Core.Logic.{⊎_elim, inl, inr}
-use native.Mathlib.Nat.{sub-eq-zero_of_le}
-use native.Mathlib.Omega.{arith}
-use borrow.Author.Rules.{rules}
-use borrow.Author.Tests.{ne_eqb}
-use Rattle.numbers.proofs.Left.{more_left}
-use Rattle.kinds.specs.Steps.{steps_in, op_at}
-use Rattle.partners.specs.Partners.{partner_by, partner_of}
+use Prim.Native.Nat.{◌+◌, ◌-◌, ◌≤◌}
+use mathlib.Core.Path.{◌≡◌}
+use Rattle.kinds.specs.Steps.{steps_in}
+use Rattle.partners.specs.Partners.{partner_of}
 use Rattle.partners.proofs.partner.Given as goal
 
 abbrev pub invariant-scan : goal.invariant-scan

@@ -1,14 +1,13 @@
 -- `pieces::keep_from` meets its contract. The loop's invariant: so many bytes from the place on stand in front, and the others are
 -- as they were. The measure is the bytes left to move.
-use Prim.Native.Nat.{ℕ, suc, ◌+◌, ◌-◌, ◌≤◌, ◌<◌}
+use Prim.Native.Nat.{ℕ, suc, ◌+◌, ◌-◌, ◌<◌}
 use mathlib.Core.List.{List}
 use mathlib.Core.Path.{◌≡◌, refl, ap, sym, subst, ◌∙◌}
 use native.Mathlib.Nat.{zero-add, add_comm}
 use native.Mathlib.Numerals.{add-one}
 use native.Mathlib.Omega.{arith}
 use lib.ListN.{length, get_or, set, drop, length-drop, length-set, drop_of_length-le}
-use lib.Seq.{paste, paste-suc, drop-paste, take_all, get_or-drop}
-use borrow.Author.Rules.{rules}
+use lib.Seq.{paste-suc, drop-paste, take_all, get_or-drop}
 use Rattle.pieces.specs.Pieces.{to_front}
 use Rattle.pieces.proofs.keep_from.Invariants.{moved}
 use Rattle.pieces.proofs.keep_from.Goals as goal

@@ -5,9 +5,7 @@ use mathlib.Core.Path.{◌≡◌, refl, sym, ap, ◌∙◌}
 use mathlib.Core.Bool.{false, and-false}
 use mathlib.Core.List.{List}
 use native.Mathlib.Omega.{arith}
-use borrow.Author.Rules.{rules}
 use borrow.Author.Tests.{ne_eqb, le-ltb}
-use Rattle.verdicts.specs.Verdicts.{verdict_of}
 use Rattle.layout.specs.Layout.{routines_of}
 use Rattle.book.specs.Book.{book_verdict, is_shown}
 use Rattle.verdicts.proofs.Answers.{refuses}

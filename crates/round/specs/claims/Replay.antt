@@ -1,7 +1,6 @@
 -- The trace of a round, carried out again in order by document 01's table: the counters, the numbers given, and where a routine stands.
-use Rattle.std.specs.Prelude.{ℕ, ◌+◌, ◌-◌, ◌||◌, List, [], ◌∷◌, ◌++◌, eqb, get_or, set, ℤ, pos}
+use Rattle.std.specs.Prelude.{ℕ, ◌+◌, ◌-◌, ◌||◌, List, [], ◌∷◌, ◌++◌, eqb, get_or, set, ℤ, pos, if◌then◌else◌}
 use Rattle.kinds.specs.Ops.{op_set, op_add, op_take, op_signal_number, op_rest, op_read, op_if, op_else, op_while, op_end}
-use Rattle.numbers.specs.Choice.{if◌then◌else◌}
 use Rattle.numbers.specs.Numbers.{sum_of, relation_of, count_of}
 use Rattle.kinds.specs.Steps.{op_at, field_a, field_b, field_n}
 use Rattle.directory.specs.Directory.{routine_steps}

@@ -1,5 +1,4 @@
 -- `texts::put_numbered` meets its contract: the number is put behind the word.
-use borrow.Author.Rules.{rules}
 use Rattle.texts.proofs.Behind.{then}
 use Rattle.texts.proofs.put_numbered.Goals as goal
 

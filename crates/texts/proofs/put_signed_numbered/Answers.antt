@@ -1,6 +1,5 @@
 -- `texts::put_signed_numbered` meets its contract: the number is put behind the word.
 use mir.Facts.{to_z-of_z}
-use borrow.Author.Rules.{rules}
 use Rattle.texts.proofs.Behind.{then}
 use Rattle.texts.proofs.put_signed_numbered.Goals as goal
 

@@ -1,5 +1,4 @@
 -- `unstarted::find` meets its contract: the code's two tests are the contract's.
-use borrow.Author.Rules.{rules}
 use borrow.Author.Tests.{lt-ltb, le-ltb}
 use Rattle.unstarted.proofs.find.Goals as goal
 

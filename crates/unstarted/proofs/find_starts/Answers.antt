@@ -24,11 +24,11 @@ loop-at-preserved c =
     let here = c.if-steps-step-eq-OP_START in
     -- what is found behind the step
     let found : search_of here.flags here.order here.found
-      ≡ with_step c.args.steps.now c.loop-at.at (search_of c.loop-at.flags c.loop-at.order c.loop-at.found) =
+    ≡ with_step c.args.steps.now c.loop-at.at (search_of c.loop-at.flags c.loop-at.order c.loop-at.found) =
     elim here.branch [
-      then-steps-step-eq-OP_START w ↦
-        rw (w.flags-is, w.order-is, w.found-is, eq-eqb _ _ w.if-steps-step-eq-OP_START.true) w.find-found.ensures
-    | else-steps-step-eq-OP_START w ↦ rw (w.flags-is, w.order-is, w.found-is, ne_eqb _ _ w.if-steps-step-eq-OP_START.false)
+      | then-steps-step-eq-OP_START w ↦
+          rw (w.flags-is, w.order-is, w.found-is, eq-eqb _ _ w.if-steps-step-eq-OP_START.true) w.find-found.ensures
+      | else-steps-step-eq-OP_START w ↦ rw (w.flags-is, w.order-is, w.found-is, ne_eqb _ _ w.if-steps-step-eq-OP_START.false)
     ] in
     (rw (found, ← (goes _ _ _ _ c.loop-at-test.true)) c.loop-at.invariant.0, omega (arith, c.loop-at-test.true))
 

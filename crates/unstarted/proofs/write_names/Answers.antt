@@ -1,5 +1,5 @@
 -- `unstarted::write_names` meets its contract: each turn of the loop takes the name of `routine`, if it has one, out of those that are left.
-use Prim.Native.Nat.{ℕ, ◌+◌, ◌-◌, ◌≤◌, ◌<◌}
+use Prim.Native.Nat.{ℕ, ◌+◌, ◌≤◌, ◌<◌}
 use mathlib.Core.Path.{◌≡◌, sym, ◌∙◌}
 use mathlib.Core.Bool.{Bool, true, false}
 use mathlib.Core.List.{List, [], ◌∷◌}
@@ -36,19 +36,19 @@ loop-routine-preserved c =
     let more = c.loop-routine-test.true in
     let inv = l.invariant in
     elim c.if-not-flags-routine.branch [
-      then-not-flags-routine w ↦
-        let here = named flags all r more w.if-not-flags-routine.true in
-        let room : l.count < length l.names = omega (arith, inv.2, inv.4, more, c.requires.1) in
-        rw (w.names-is, w.count-is) (
-          part_one r l.count (left flags all (r + 1)) l.names room ∙ (rw here at inv.0),
-          omega (arith, rw here at inv.1),
-          omega (arith, inv.2),
-          omega (arith, more),
-          length-set l.names l.count r ∙ inv.4,
-        )
-    | else-not-flags-routine w ↦
-        let here = passed flags all r more w.if-not-flags-routine.false in
-        rw (w.names-is, w.count-is) (rw here at inv.0, rw here at inv.1, omega (arith, inv.2), omega (arith, more), inv.4)
+      | then-not-flags-routine w ↦
+          let here = named flags all r more w.if-not-flags-routine.true in
+          let room : l.count < length l.names = omega (arith, inv.2, inv.4, more, c.requires.1) in
+          rw (w.names-is, w.count-is) (
+            part_one r l.count (left flags all (r + 1)) l.names room ∙ (rw here at inv.0),
+            omega (arith, rw here at inv.1),
+            omega (arith, inv.2),
+            omega (arith, more),
+            length-set l.names l.count r ∙ inv.4,
+          )
+      | else-not-flags-routine w ↦
+          let here = passed flags all r more w.if-not-flags-routine.false in
+          rw (w.names-is, w.count-is) (rw here at inv.0, rw here at inv.1, omega (arith, inv.2), omega (arith, more), inv.4)
     ]
 
 pub returns : goal.returns

@@ -1,6 +1,6 @@
 -- `words::find` meets its contract. The loop's invariant: the search from `at` on finds what the search from `from` on does, and `at` is
 -- between `from` and the text's length. The measure is what is left of the text.
-use Prim.Native.Nat.{ℕ, ◌+◌, ◌-◌, ◌≤◌, ◌<◌, max}
+use Prim.Native.Nat.{ℕ, ◌+◌, ◌≤◌, ◌<◌}
 use mathlib.Core.Path.{◌≡◌, sym, ◌∙◌}
 use mathlib.Core.List.{List}
 use native.Mathlib.Nat.{sub-eq-zero_of_le}

@@ -1,14 +1,9 @@
 -- `words::find` meets its contract. The loop's invariant: the search from `at` on finds what the search from `from` on does, and `at` is
 -- between `from` and the text's length. The measure is what is left of the text.
-use Prim.Native.Nat.{ℕ, ◌+◌, ◌-◌, ◌≤◌, ◌<◌, max}
-use mathlib.Core.Path.{◌≡◌, sym, ◌∙◌}
-use mathlib.Core.List.{List}
-use native.Mathlib.Nat.{sub-eq-zero_of_le}
-use lib.ListN.{length, get_or}
-use borrow.Author.Rules.{rules}
-use borrow.Author.Tests.{eq-eqb, ne_eqb}
-use Rattle.numbers.proofs.Left.{more_left}
-use Rattle.words.specs.Words.{find_from, found_at}
+use Prim.Native.Nat.{◌-◌, ◌≤◌, max}
+use mathlib.Core.Path.{◌≡◌}
+use lib.ListN.{length}
+use Rattle.words.specs.Words.{found_at}
 use Rattle.words.proofs.find.Given as goal
 
 abbrev pub invariant-loop-at : goal.invariant-loop-at

@@ -1,6 +1,5 @@
 -- `words::first` meets its contract: the part from place 0 to the first space is what taking so many bytes gives.
 -- The place of the first space is known from `words::find`, and lies within the text.
-use borrow.Author.Rules.{rules}
 use Rattle.numbers.proofs.Parts.{part_to}
 use Rattle.words.proofs.first.Goals as goal
 

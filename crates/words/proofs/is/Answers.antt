@@ -1,7 +1,6 @@
 -- `words::is` meets its contract: words of different lengths differ. The loop's invariant: the bytes that were passed are the same.
 -- The measure is what is left of the name.
-use Prim.Native.Nat.{ℕ, ◌-◌, ◌≤◌}
-use mathlib.Core.Bool.{true}
+use Prim.Native.Nat.{ℕ}
 use mathlib.Core.List.{List}
 use mathlib.Core.Path.{◌≡◌, sym, ◌∙◌}
 use lib.ListN.{length}

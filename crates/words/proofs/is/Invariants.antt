@@ -1,15 +1,11 @@
 -- `words::is` meets its contract: words of different lengths differ. The loop's invariant: the bytes that were passed are the same.
 -- The measure is what is left of the name.
-use Prim.Native.Nat.{ℕ, ◌-◌, ◌≤◌}
+use Prim.Native.Nat.{◌-◌, ◌≤◌}
 use mathlib.Core.Bool.{true}
-use mathlib.Core.List.{List}
-use mathlib.Core.Path.{◌≡◌, sym, ◌∙◌}
+use mathlib.Core.Path.{◌≡◌}
 use lib.ListN.{length}
-use borrow.Author.Rules.{rules}
-use borrow.Author.Tests.{eq-eqb, ne_eqb}
 use Rattle.numbers.specs.Counting.{all_below}
-use Rattle.numbers.proofs.Below.{all_fails, all_next, all_ends}
-use Rattle.words.specs.Words.{same_at, is_same}
+use Rattle.words.specs.Words.{same_at}
 use Rattle.words.proofs.is.Given as goal
 
 abbrev pub invariant-loop-at : goal.invariant-loop-at

@@ -1,16 +1,10 @@
 -- `words::place_in` meets its contract. The loop's invariant: the search from `at` on, `count` names in, finds what the whole search does;
 -- the count is at most `at`, which is at most one past the names. The measure is what is left of them, the end of the last one included.
-use Prim.Native.Nat.{ℕ, zero, suc, ◌+◌, ◌-◌, ◌≤◌, ◌<◌}
-use mathlib.Core.Path.{◌≡◌, refl, sym, ◌∙◌}
-use mathlib.Core.Bool.{true, false}
+use Prim.Native.Nat.{ℕ, ◌+◌, ◌-◌, ◌≤◌}
+use mathlib.Core.Path.{◌≡◌}
 use mathlib.Core.List.{List}
-use native.Mathlib.Nat.{sub-zero}
-use native.Mathlib.Omega.{arith}
-use lib.ListN.{length, take, drop}
-use borrow.Author.Rules.{rules}
-use borrow.Author.Tests.{lt-ltb, le-ltb}
-use Rattle.numbers.proofs.Left.{more_left}
-use Rattle.words.specs.Words.{space, found_at, is_same, place_from, place_of}
+use lib.ListN.{length}
+use Rattle.words.specs.Words.{place_from, place_of}
 use Rattle.words.proofs.place_in.Given as goal
 
 -- the search from name k on, which begins at place i; each name before it has taken one of the turns

@@ -5,7 +5,6 @@ use mathlib.Core.Path.{◌≡◌, refl, sym, ap, ◌∙◌}
 use mathlib.Core.List.{List}
 use native.Mathlib.Omega.{arith}
 use lib.ListN.{length, take, drop, drop_of_length-le}
-use borrow.Author.Rules.{rules}
 use Rattle.numbers.proofs.Parts.{rest_from}
 use Rattle.words.proofs.rest.Goals as goal
 

@@ -1,6 +1,5 @@
 -- `fields::byte_at` meets its contract: past the end the contract reads 0, and so does the code.
 use native.Mathlib.Omega.{arith}
-use borrow.Author.Rules.{rules}
 use lib.ListN.{get_or-eq_default}
 use Rattle.loading.proofs.fields.byte_at.Goals as goal
 

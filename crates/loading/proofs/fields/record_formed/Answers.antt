@@ -1,5 +1,4 @@
 -- `fields::record_formed` meets its contract: its two tests are the contract's, and the second is made where the first passes.
-use borrow.Author.Rules.{rules}
 use borrow.Author.Tests.{le-leb, lt-leb}
 use Rattle.loading.proofs.fields.record_formed.Goals as goal
 

@@ -1,5 +1,4 @@
 -- `fields::signal_in` meets its contract: the byte is the one that the contract names, and the bit is that of `has_bit`.
-use borrow.Author.Rules.{rules}
 use Rattle.loading.proofs.fields.signal_in.Goals as goal
 
 pub returns : goal.returns

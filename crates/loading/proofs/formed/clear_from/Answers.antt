@@ -4,7 +4,6 @@ use mathlib.Core.Path.{◌≡◌, sym, ◌∙◌}
 use mathlib.Core.Bool.{false}
 use mathlib.Core.List.{List, []}
 use native.Mathlib.Omega.{arith}
-use borrow.Author.Rules.{rules}
 use lib.ListN.{get_or}
 use Rattle.stored_games.specs.Bits.{from_bits}
 use Rattle.stored_games.specs.Forms.{byte_bits}
@@ -26,7 +25,7 @@ returns-then-byte_at-eq0 c =
     record {
       few = omega arith;
       none = λ z. absurd (omega (arith, z));
-      clear = λ i. none_set a.bytes.now a.from a.at i c.if-at-eq0.true (sym c.byte_at.ensures ∙ c.if-byte_at-eq0.true);
+      clear = λ i. none_set a.bytes.now a.from a.at i (omega arith) (sym c.byte_at.ensures ∙ c.if-byte_at-eq0.true);
     }
 
 pub returns-then-signal_in : goal.returns-then-signal_in

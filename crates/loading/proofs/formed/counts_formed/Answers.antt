@@ -5,10 +5,8 @@ use mathlib.Core.List.{List}
 use Rattle.kinds.specs.declared.Counts.{Counts}
 use mathlib.Core.Path.{◌≡◌}
 use mathlib.Core.Bool.{true}
-use lib.Dec.{leb, eqb}
-use borrow.Author.Rules.{rules}
+use lib.Dec.{leb}
 use borrow.Author.Tests.{le-leb, lt-leb, eq-eqb, ne_eqb}
-use Rattle.numbers.specs.Numbers.{half_at}
 use Rattle.layout.specs.Layout.{most_routines}
 use Rattle.stored_games.specs.Reading.{counts_in, counts_formed}
 use Rattle.loading.proofs.formed.counts_formed.Goals as goal

@@ -1,11 +1,7 @@
 -- `formed::is_formed` meets its contract: each test of the code is one of the contract's, in the same order. Where the parts are right, the
 -- records lie within the bytes.
-use mathlib.Core.Path.{◌≡◌, sym, ◌∙◌}
-use mathlib.Core.Bool.{true}
-use borrow.Author.Rules.{rules}
-use borrow.Author.Tests.{not-true, not-false}
-use Rattle.numbers.specs.Counting.{all_below}
-use Rattle.stored_games.specs.Reading.{counts_in, counts_formed, parts_formed, record_at, record_formed, is_formed}
+use mathlib.Core.Path.{sym, ◌∙◌}
+use Rattle.stored_games.specs.Reading.{is_formed}
 use Rattle.loading.proofs.Inside.{parts_inside}
 use Rattle.loading.proofs.formed.is_formed.Goals as goal
 

@@ -1,14 +1,7 @@
 -- `formed::parts_formed` meets its contract: each test of the code is one of the contract's, in the same order, so the first that fails
 -- settles it, and those before it drop out.
-use mathlib.Core.Path.{◌≡◌}
-use mathlib.Core.Bool.{true}
-use lib.Dec.{leb, eqb}
-use borrow.Author.Rules.{rules}
 use borrow.Author.Tests.{le-leb, lt-leb, eq-eqb, ne_eqb}
-use Rattle.numbers.specs.Numbers.{half_at}
-use Rattle.lines.specs.Lines.{most_entries}
-use Rattle.stored_games.specs.Stored.{game_header_bytes}
-use Rattle.stored_games.specs.Reading.{parts_of, parts_formed}
+use Rattle.stored_games.specs.Reading.{parts_formed}
 use Rattle.loading.proofs.formed.parts_formed.Goals as goal
 
 -- the places that the code works with are the contract's

@@ -1,9 +1,6 @@
 -- `formed::parts_of` meets its contract: each place is the definition's. A record has at most 8 bytes, and counts and the set's size have
 -- 16 bits, so no place is beyond the limit.
-use Prim.Native.Nat.{◌*◌, ◌≤◌}
 use native.Mathlib.Omega.{arith}
-use borrow.Author.Rules.{rules}
-use Rattle.stored_games.specs.Forms.{field_bytes}
 use Rattle.stored_games.specs.Reading.{parts_of}
 use Rattle.stored_games.proofs.Lengths.{record_bytes}
 use Rattle.loading.proofs.formed.parts_of.Goals as goal

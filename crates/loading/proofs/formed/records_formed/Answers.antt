@@ -2,16 +2,13 @@
 -- records do.
 use mathlib.Core.List.{List}
 use Rattle.stored_games.specs.declared.Form.{Form}
-use Prim.Native.Nat.{ℕ, ◌+◌, ◌*◌, ◌-◌, ◌≤◌}
-use mathlib.Core.Path.{◌≡◌, refl, sym, ◌∙◌}
-use mathlib.Core.Bool.{Bool, true}
+use Prim.Native.Nat.{ℕ}
+use mathlib.Core.Path.{refl, sym, ◌∙◌}
+use mathlib.Core.Bool.{Bool}
 use native.Mathlib.Omega.{arith}
 use borrow.Author.Rules.{rules}
-use borrow.Author.Tests.{not-true, not-false}
-use lib.ListN.{length, take, drop}
 use Rattle.numbers.specs.Counting.{all_below}
 use Rattle.numbers.proofs.Below.{all_fails, all_next, all_ends}
-use Rattle.stored_games.specs.Stored.{game_header_bytes}
 use Rattle.stored_games.specs.Reading.{record_at, record_formed}
 use Rattle.loading.proofs.Records.{record_within, record_part}
 use Rattle.loading.proofs.formed.records_formed.Goals as goal

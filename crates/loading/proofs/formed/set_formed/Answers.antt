@@ -1,17 +1,12 @@
 -- `formed::set_formed` meets its contract. The invariant: every bit before `at` passes, and `at` is not before `signals`, where the loop
 -- begins. The bits before `signals` pass whatever they are, and those that are seen at once not to be set pass together.
-use Prim.Native.Nat.{ℕ, ◌-◌, ◌≤◌}
-use mathlib.Core.Path.{◌≡◌, sym}
-use mathlib.Core.Bool.{Bool, true, ◌||◌, not}
-use mathlib.Core.List.{List}
+use mathlib.Core.Path.{sym}
 use native.Mathlib.Omega.{arith}
 use native.Mathlib.Decide.{dec_lt}
 use borrow.Author.Rules.{rules}
 use borrow.Author.Tests.{lt-ltb, le-ltb}
-use lib.Dec.{ltb}
-use Rattle.numbers.specs.Counting.{all_below, all_from}
+use Rattle.numbers.specs.Counting.{all_from}
 use Rattle.numbers.proofs.Below.{all_holds, all_true, all_fails}
-use Rattle.stored_games.specs.Reading.{signal_in}
 use Rattle.loading.proofs.formed.set_formed.Invariants.{signal_passes}
 use Rattle.loading.proofs.formed.set_formed.Goals as goal
 

@@ -1,18 +1,13 @@
 -- `slots::counters_in` meets its contract. The invariant: the first `done` slots are filled. What the machine reads back of a number is
 -- the number, since it fits 32 bits.
 use Prim.Native.Nat.{◌+◌, ◌*◌, ◌-◌, ◌≤◌}
-use mathlib.Core.Path.{◌≡◌, ◌∙◌}
-use borrow.Author.Rules.{rules}
+use mathlib.Core.Path.{◌≡◌}
 use lib.IntN.{pos}
-use mir.Syntax.{w32}
-use mir.Val.{SFits}
-use mir.Facts.{to_z-of_z}
 use Rattle.numbers.specs.Numbers.{signed}
 use Rattle.numbers.specs.Bytes.{word_at}
 use Rattle.layout.specs.Layout.{most_counters}
 use Rattle.stored_games.specs.Stored.{counter_bytes}
 use Rattle.stored_games.specs.Reading.{in_slots}
-use Rattle.loading.proofs.Filling.{slots_none, slots_next, slots_end}
 use Rattle.loading.proofs.slots.counters_in.Given as goal
 
 abbrev pub invariant-loop-done : goal.invariant-loop-done

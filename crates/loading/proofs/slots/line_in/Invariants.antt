@@ -1,11 +1,9 @@
 -- `slots::line_in` meets its contract. The invariant: the first `done` slots are filled.
 use Prim.Native.Nat.{◌+◌, ◌-◌, ◌≤◌}
-use mathlib.Core.Path.{◌≡◌, refl}
-use borrow.Author.Rules.{rules}
+use mathlib.Core.Path.{◌≡◌}
 use lib.ListN.{get_or}
 use Rattle.lines.specs.Lines.{most_entries}
 use Rattle.stored_games.specs.Reading.{in_slots}
-use Rattle.loading.proofs.Filling.{slots_none, slots_next, slots_end}
 use Rattle.loading.proofs.slots.line_in.Given as goal
 
 abbrev pub invariant-loop-done : goal.invariant-loop-done

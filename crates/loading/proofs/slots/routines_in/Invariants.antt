@@ -1,15 +1,11 @@
 -- `slots::routines_in` meets its contract. The invariant: the first `done` slots are filled.
 use Prim.Native.Nat.{◌+◌, ◌*◌, ◌-◌, ◌≤◌}
-use mathlib.Core.Path.{◌≡◌, ◌∙◌}
-use native.Mathlib.Omega.{arith}
-use borrow.Author.Rules.{rules}
-use lib.ListN.{length, take, drop}
+use mathlib.Core.Path.{◌≡◌}
+use lib.ListN.{take, drop}
 use Rattle.layout.specs.Layout.{most_routines}
 use Rattle.game.specs.Game.{blank}
 use Rattle.stored_games.specs.Stored.{game_header_bytes}
 use Rattle.stored_games.specs.Reading.{routine_by_record, in_slots}
-use Rattle.loading.proofs.Filling.{slots_none, slots_next, slots_end}
-use Rattle.loading.proofs.Records.{record_within, record_part}
 use Rattle.loading.proofs.slots.routines_in.Given as goal
 
 abbrev pub invariant-loop-done : goal.invariant-loop-done

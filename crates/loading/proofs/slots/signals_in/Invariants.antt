@@ -2,10 +2,8 @@
 use Prim.Native.Nat.{◌-◌, ◌≤◌}
 use mathlib.Core.Path.{◌≡◌}
 use mathlib.Core.Bool.{false}
-use borrow.Author.Rules.{rules}
 use Rattle.layout.specs.Layout.{most_signals}
 use Rattle.stored_games.specs.Reading.{in_slots, signal_in}
-use Rattle.loading.proofs.Filling.{slots_none, slots_next, slots_end}
 use Rattle.loading.proofs.slots.signals_in.Given as goal
 
 abbrev pub invariant-loop-done : goal.invariant-loop-done

@@ -1,6 +1,6 @@
 -- `reading::checks::check_blocks` meets its contract. The invariant: what is left to find, a 6 first and else the 7 that is kept or the
 -- next one, is what the whole search finds.
-use Prim.Native.Nat.{ℕ, ◌+◌, ◌-◌, ◌<◌, ◌≤◌}
+use Prim.Native.Nat.{ℕ, ◌+◌, ◌<◌, ◌≤◌}
 use mathlib.Core.Path.{◌≡◌, refl, sym, ap, ◌∙◌}
 use mathlib.Core.Bool.{Bool, true, false}
 use mathlib.Core.List.{List}
@@ -8,7 +8,7 @@ use native.Mathlib.Omega.{arith}
 use native.Mathlib.Decide.{ℕ_discrete}
 use lib.Dec.{ltb}
 use borrow.Author.Rules.{rules}
-use Rattle.numbers.specs.Choice.{if◌then◌else◌}
+use Rattle.std.specs.Prelude.{if◌then◌else◌}
 use Rattle.verdicts.specs.declared.Verdict.{Verdict}
 use Rattle.verdicts.specs.declared.BookAnswer.{BookAnswer}
 use Rattle.verdicts.specs.declared.BookAnswer.TheVariants.{Accepted, TooShort, WrongCount, WrongLayout, WrongEntry, WrongStep}

@@ -1,12 +1,11 @@
 -- `reading::checks::check_steps` meets its contract. The invariant: the search for the first refused step from `at` on is the whole search;
 -- a step that decodes drops out of it, and the first that does not is what it finds. The layout says that the steps begin in the book.
-use Prim.Native.Nat.{ℕ, ◌+◌, ◌-◌, ◌<◌, ◌≤◌}
+use Prim.Native.Nat.{ℕ, ◌+◌, ◌<◌, ◌≤◌}
 use mathlib.Core.Path.{◌≡◌, refl, sym, ap, ◌∙◌}
 use mathlib.Core.List.{List}
 use native.Mathlib.Omega.{arith}
 use borrow.Author.Rules.{rules}
 use lib.IntN.{ℤ}
-use Rattle.verdicts.specs.declared.Verdict.{Verdict}
 use Rattle.kinds.specs.declared.Counts.{Counts}
 use Rattle.kinds.specs.declared.Kind.{Kind}
 use Rattle.kinds.specs.declared.Step.{Step}
@@ -16,7 +15,7 @@ use Rattle.layout.specs.Layout.{steps_of, counts_of}
 use Rattle.kinds.specs.Steps.{step_at}
 use Rattle.kinds.specs.Limits.{limits_of, step_within}
 use Rattle.kinds.proofs.Limits.{step_within_lem}
-use Rattle.book.specs.Book.{steps_part, step_verdict, steps_verdict}
+use Rattle.book.specs.Book.{steps_part, steps_verdict}
 use Rattle.book.proofs.Laid.{laid_out}
 use Rattle.verdicts.proofs.First.{first_stops, first_goes, first_ends}
 use Rattle.numbers.proofs.Parts.{rest_from}

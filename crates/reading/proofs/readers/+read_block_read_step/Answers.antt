@@ -1,8 +1,8 @@
 -- The block reader and the step reader meet their contracts. Each turn of the block reader's loop takes one step out of what is left of the
 -- block; what the block reader ensures of each block that a step holds decides how the walk over the step goes on.
-use Prim.Native.Nat.{ℕ, ◌+◌, ◌-◌, ◌≤◌, ◌<◌}
+use Prim.Native.Nat.{ℕ, ◌-◌, ◌<◌}
 use mathlib.Core.Path.{◌≡◌, refl, sym, ap, ◌∙◌}
-use mathlib.Core.Bool.{Bool, or-true, or-false}
+use mathlib.Core.Bool.{or-true, or-false}
 use mathlib.Core.List.{List}
 use native.Mathlib.Omega.{arith}
 use borrow.Author.Rules.{rules}
@@ -13,14 +13,12 @@ use Rattle.kinds.specs.declared.Kind.{Kind}
 use Rattle.kinds.specs.declared.Step.{Step}
 use Rattle.kinds.specs.declared.Step.TheVariants as step
 use Rattle.forms.specs.declared.Form.{Form}
-use Rattle.forms.specs.declared.Form.TheVariants.{IfOpening, ElseMarker, WhileOpening, EndMarker}
+use Rattle.forms.specs.declared.Form.TheVariants.{ElseMarker, WhileOpening, EndMarker}
 use Rattle.forms.specs.Forms.{form_of}
-use Rattle.blocks.specs.declared.Walk.{Walk}
-use Rattle.blocks.specs.declared.Walk.TheVariants as walk
-use Rattle.blocks.specs.Blocks.{View, stands, block_of, step_of, if_of, while_of}
+use Rattle.blocks.specs.Blocks.{View, stands, step_of, if_of, while_of}
 use Rattle.reading.specs.Found.{view_by, Opens, lowered}
 use Rattle.reading.proofs.Views.{view_beyond, stands_there, stands_below}
-use Rattle.reading.proofs.Lowered.{block_lowered, lowered_below}
+use Rattle.reading.proofs.Lowered.{block_lowered}
 use Rattle.reading.proofs.Remaining.{opening, unclosed_stopped, left_none, left_unreadable, left_marker}
 use Rattle.reading.proofs.Remaining.{left_plain, left_pausing, left_held, left_wrong, held_ahead}
 use Rattle.reading.proofs.Steps.{is_if, too_deep, step_while, step_if, while_wrong, if_wrong}
@@ -101,8 +99,8 @@ read_block-loop-at-preserved t c =
     let low = (held_ahead _ _ _ _ c.loop-at.pauses _ _ form opens told).1 in
     let goes = on ∙ c.loop-at.invariant.0 in (
       elim c.if-more.branch [
-        read_block-then-more w ↦ rw w.pauses-is (rw (w.if-more.true, or-true) at goes)
-      | read_block-else-more w ↦ rw w.pauses-is (rw (w.if-more.false, or-false) at goes)
+        | read_block-then-more w ↦ rw w.pauses-is (rw (w.if-more.true, or-true) at goes)
+        | read_block-else-more w ↦ rw w.pauses-is (rw (w.if-more.false, or-false) at goes)
       ],
       omega (arith, low, c.loop-at.invariant.1),
     )

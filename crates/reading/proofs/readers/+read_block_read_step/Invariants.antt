@@ -1,7 +1,7 @@
 -- The block reader and the step reader call each other; what falls along the cycle, so that it ends, is the depth that is left, and
 -- at equal depths a step within its block. The loop's invariant: what is left of the block from `at` on, with what is told so far, is the
 -- whole block lowered by `low`; each turn of the loop takes one step out of it.
-use Rattle.std.proofs.Common.{◌-◌, ◌≡◌, ◌*◌, ◌≤◌, ℕ, ◌+◌}
+use Rattle.std.proofs.Common.{◌-◌, ◌≡◌, ◌*◌, ◌≤◌, ◌+◌}
 use Rattle.blocks.specs.Blocks.{block_by, step_of, block_of}
 use Rattle.reading.specs.Found.{view_by, lowered}
 use Rattle.reading.proofs.readers.+read_block_read_step.Given as goal

@@ -1,7 +1,7 @@
 -- `storing::bits::flags_of` meets its contract: the flags are put in from the highest bit down, and fewer than five bits are below 16.
 use Prim.Native.Nat.{◌≤◌}
 use native.Mathlib.Omega.{arith}
-use Rattle.numbers.specs.Choice.{if◌then◌else◌}
+use Rattle.std.specs.Prelude.{if◌then◌else◌}
 use Rattle.game.specs.declared.Routine.{Routine}
 use Rattle.stored_games.specs.Bits.{from_bits}
 use Rattle.storing.proofs.Flags.{bit_small}
