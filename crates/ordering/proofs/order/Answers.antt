@@ -80,22 +80,23 @@ bounds-next-at-in-3 c = routine _ _ _ _ c.order_verdict-verdict.ensures c.if-ver
 pub bounds-next-at-in-4 : goal.bounds-next-at-in-4
 bounds-next-at-in-4 c = routine _ _ _ _ c.order_verdict-verdict.ensures c.if-verdict-ne0.false c.if-kind-eq-BROADCAST.false
 
+-- what each call answers is found among what is known, and not by the callee's name
 pub returns-in-1 : goal.returns-in-1
 unfolding obeyed
 returns-in-1 c =
-    obeys _ _ _ _ c.order_verdict-verdict.ensures c.if-verdict-ne0.false _ (rw (c.in-1.is, c.with_start-next.ensures))
+    obeys _ _ _ _ c.order_verdict-verdict.ensures c.if-verdict-ne0.false _ (rw c.in-1.is (cc))
 
 pub returns-in-2 : goal.returns-in-2
 unfolding obeyed
-returns-in-2 c = obeys _ _ _ _ c.order_verdict-verdict.ensures c.if-verdict-ne0.false _ (rw (c.in-2.is, c.with_stop.ensures))
+returns-in-2 c = obeys _ _ _ _ c.order_verdict-verdict.ensures c.if-verdict-ne0.false _ (rw c.in-2.is (cc))
 
 pub returns-in-3 : goal.returns-in-3
 unfolding obeyed
-returns-in-3 c = obeys _ _ _ _ c.order_verdict-verdict.ensures c.if-verdict-ne0.false _ (rw (c.in-3.is, c.with_suspend.ensures))
+returns-in-3 c = obeys _ _ _ _ c.order_verdict-verdict.ensures c.if-verdict-ne0.false _ (rw c.in-3.is (cc))
 
 pub returns-in-4 : goal.returns-in-4
 unfolding obeyed
-returns-in-4 c = obeys _ _ _ _ c.order_verdict-verdict.ensures c.if-verdict-ne0.false _ (rw (c.in-4.is, c.with_resume.ensures))
+returns-in-4 c = obeys _ _ _ _ c.order_verdict-verdict.ensures c.if-verdict-ne0.false _ (rw c.in-4.is (cc))
 
 pub returns-in_default : goal.returns-in_default
 returns-in_default c =

@@ -54,7 +54,7 @@ returns-then-not-fits c =
 pub returns-then-order_count-number : goal.returns-then-order_count-number
 returns-then-order_count-number c =
     let read = c.verdict_of-read.ensures ∙ c.read_book.ensures in
-    let fit = sym c.fits.ensures ∙ c.if-not-fits.false in
+    let fit : fits_book c.args.book.now c.args.game ≡ true = cc in
     let count = c.order_count.ensures ∙ ap (λ k. order_count k c.args.kind) c.counts_of.ensures in
     c.as_verdict-then-order_count-number.ensures
     ∙ sym (beyond _ _ _ _ read c.if-read-ne0.false fit count c.if-order_count-number.true)
@@ -62,6 +62,6 @@ returns-then-order_count-number c =
 pub returns : goal.returns
 returns c =
     let read = c.verdict_of-read.ensures ∙ c.read_book.ensures in
-    let fit = sym c.fits.ensures ∙ c.if-not-fits.false in
+    let fit : fits_book c.args.book.now c.args.game ≡ true = cc in
     let count = c.order_count.ensures ∙ ap (λ k. order_count k c.args.kind) c.counts_of.ensures in
     below _ _ _ _ read c.if-read-ne0.false fit count c.if-order_count-number.false
