@@ -1,6 +1,5 @@
 -- `listing::put_mark` meets its contract: its parts are put one behind another.
 use mir.Facts.{to_z-of_z}
-use borrow.Author.Rules.{rules}
 use Rattle.texts.specs.Texts.{ascii}
 use Rattle.texts.proofs.Behind.{then}
 use Rattle.listing.specs.Listing.{mark_line}

@@ -1,6 +1,6 @@
 -- `listing::put_marks` meets its contract. The loop's invariant: the lines of the marks that are left, put into the buffer as it is, give
 -- what the lines of all marks give in the buffer as lent. The measure is how many numbers are left.
-use Prim.Native.Nat.{ℕ, suc, ◌+◌, ◌-◌, ◌≤◌, ◌<◌}
+use Prim.Native.Nat.{ℕ, suc, ◌+◌, ◌≤◌, ◌<◌}
 use mathlib.Core.List.{List, [], ◌++◌}
 use mathlib.Core.Path.{◌≡◌, refl, ap, ◌∙◌}
 use native.Mathlib.Numerals.{add-one}

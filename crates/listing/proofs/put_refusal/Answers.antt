@@ -1,5 +1,4 @@
 -- `listing::put_refusal` meets its contract: its parts are put one behind another.
-use borrow.Author.Rules.{rules}
 use Rattle.texts.specs.Texts.{ascii}
 use Rattle.texts.proofs.Behind.{then}
 use Rattle.listing.specs.Listing.{refusal_line}

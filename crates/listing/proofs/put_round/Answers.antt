@@ -1,5 +1,4 @@
 -- `listing::put_round` meets its contract: the lines of the marks are put behind the round's own.
-use borrow.Author.Rules.{rules}
 use Rattle.texts.proofs.Behind.{then}
 use Rattle.listing.specs.Listing.{round_lines}
 use Rattle.listing.proofs.put_round.Goals as goal
