@@ -2,7 +2,6 @@
 -- The measure is what is left of the text, the end of its last line included.
 use Prim.Native.Nat.{◌≤◌, ◌-◌, ◌+◌}
 use lib.ListN.{length}
-use borrow.Author.Rules.{rules}
 use Rattle.book_vectors.proofs.check_lines.Given as goal
 
 abbrev pub invariant-loop-at : goal.invariant-loop-at

@@ -3,7 +3,6 @@
 use Prim.Native.Nat.{◌≤◌}
 use mathlib.Core.Path.{◌≡◌}
 use lib.ListN.{length}
-use borrow.Author.Rules.{rules}
 use Rattle.game_vectors.proofs.run.Given as goal
 
 abbrev pub invariant-loop-left : goal.invariant-loop-left

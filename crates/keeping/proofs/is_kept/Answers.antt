@@ -3,7 +3,6 @@
 use mathlib.Core.Path.{sym}
 use native.Mathlib.Nat.{sub-zero}
 use native.Mathlib.Omega.{arith}
-use borrow.Author.Rules.{rules}
 use Rattle.stored_games.proofs.Forms.{form1_usable}
 use Rattle.keeping.proofs.Kept.{kept_part, kept_short}
 use Rattle.keeping.proofs.is_kept.Goals as goal

@@ -1,8 +1,6 @@
 -- `keeping::kept_game` meets its contract: bytes that have the form lie within the buffer.
-use Prim.Native.Nat.{◌≤◌}
 use native.Mathlib.Nat.{sub-zero}
 use native.Mathlib.Omega.{arith}
-use borrow.Author.Rules.{rules}
 use lib.ListN.{length}
 use Rattle.stored_games.proofs.Forms.{form1_usable}
 use Rattle.keeping.proofs.Kept.{kept_part, formed_within}

@@ -1,10 +1,9 @@
 -- `keeping::kept_length` meets its contract: the bytes up to the end that the parts give are judged as a kept game of that length.
 use Rattle.stored_games.specs.declared.Parts.{Parts}
-use mathlib.Core.Path.{◌≡◌, ap}
-use borrow.Author.Rules.{rules}
+use mathlib.Core.Path.{ap}
 use borrow.Author.Tests.{eq-eqb, ne_eqb}
 use Rattle.stored_games.proofs.Forms.{form1_usable}
-use Rattle.kept_games.specs.Kept.{end_in, kept_length}
+use Rattle.kept_games.specs.Kept.{kept_length}
 use Rattle.keeping.proofs.kept_length.Goals as goal
 
 pub parts_of-parts-requires : goal.parts_of-parts-requires

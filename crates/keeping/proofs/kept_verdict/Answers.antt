@@ -3,16 +3,10 @@ use Prim.Native.Nat.{ℕ}
 use mathlib.Core.List.{List}
 use mathlib.Core.Path.{◌≡◌, sym, ap, ◌∙◌}
 use mathlib.Core.Bool.{true}
-use borrow.Author.Rules.{rules}
-use borrow.Author.Tests.{not-true, not-false}
 use Rattle.verdicts.specs.declared.Verdict.{Verdict}
 use Rattle.book.specs.Book.{book_verdict}
 use Rattle.book.specs.Accepted.{Accepted}
 use Rattle.book.proofs.Reasons.{number_accepted, accepted_exactly}
-use Rattle.fitting.specs.Fitting.{fits_book}
-use Rattle.stored_games.specs.Forms.{form1}
-use Rattle.stored_games.specs.Reading.{game_in, is_formed}
-use Rattle.kept_games.specs.Kept.{kept_in}
 use Rattle.keeping.proofs.Kept.{book_told, unformed_told, unfit_told, nothing_told}
 use Rattle.keeping.proofs.kept_verdict.Goals as goal
 

@@ -4,11 +4,8 @@ use Prim.Native.Nat.{ℕ}
 use mathlib.Core.List.{List}
 use Rattle.game.specs.declared.Outcome.{Outcome}
 use mathlib.Core.Path.{◌≡◌, sym, ap, ◌∙◌}
-use borrow.Author.Rules.{rules}
 use Rattle.verdicts.specs.declared.Verdict.{Verdict}
-use Rattle.orders.specs.Orders.{ordered}
 use Rattle.stored_games.specs.Forms.{form1}
-use Rattle.stored_games.specs.Reading.{game_in}
 use Rattle.stored_games.proofs.Forms.{form1_usable}
 use Rattle.stored_games.proofs.Decides.{formed_decides}
 use Rattle.stored_games.proofs.Reasons.{load_reason}

@@ -3,7 +3,6 @@ use Prim.Native.Nat.{ℕ}
 use mathlib.Core.List.{List}
 use Rattle.game.specs.declared.Outcome.{Outcome}
 use mathlib.Core.Path.{◌≡◌, sym, ap, ◌∙◌}
-use borrow.Author.Rules.{rules}
 use Rattle.verdicts.specs.declared.Verdict.{Verdict}
 use Rattle.book.specs.Book.{book_verdict}
 use Rattle.book.specs.Accepted.{Accepted}

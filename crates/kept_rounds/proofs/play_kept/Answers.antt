@@ -5,8 +5,6 @@ use mathlib.Core.List.{List}
 use mathlib.Core.Path.{◌≡◌, sym, ap, ◌∙◌}
 use mathlib.Core.Bool.{true}
 use native.Mathlib.Omega.{arith}
-use borrow.Author.Rules.{rules}
-use borrow.Author.Tests.{not-true, not-false}
 use Rattle.verdicts.specs.declared.Verdict.{Verdict}
 use Rattle.book.specs.Book.{book_verdict}
 use Rattle.book.specs.Accepted.{Accepted}
@@ -17,7 +15,6 @@ use Rattle.stored_games.specs.Forms.{form1}
 use Rattle.stored_games.specs.Reading.{game_in, is_formed}
 use Rattle.stored_games.proofs.Decides.{formed_decides}
 use Rattle.stored_games.proofs.Keeping.{Loadable}
-use Rattle.kept_games.specs.Kept.{kept_in}
 use Rattle.keeping.proofs.Kept.{book_told, unformed_told, unfit_told}
 use Rattle.kept_rounds.proofs.Rounds.{play_unread, play_read, promised}
 use Rattle.kept_rounds.proofs.play_kept.Goals as goal

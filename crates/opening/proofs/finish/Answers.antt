@@ -1,6 +1,6 @@
 -- `opening::finish` meets its contract. The invariant: the first `at` routines are the tables' own, the others the lent ones. The tables
 -- have those beyond the first R as they were lent, so at the end all are the tables' own.
-use Prim.Native.Nat.{◌-◌, ◌≤◌, ◌<◌}
+use Prim.Native.Nat.{◌<◌}
 use mathlib.Core.Path.{◌≡◌, refl, sym, ◌∙◌}
 use native.Mathlib.Omega.{arith}
 use borrow.Author.Rules.{rules}
@@ -11,7 +11,7 @@ use Rattle.fitting.proofs.Sizes.{length_mapped}
 use Rattle.numbers.specs.Counting.{list_below}
 use Rattle.tables.specs.Tables.{routine_in}
 use Rattle.numbers.proofs.Lists.{below_length, below_read}
-use Rattle.opening.proofs.Copying.{copied, copy_on, copy_all}
+use Rattle.opening.proofs.Copying.{copy_on, copy_all}
 use Rattle.opening.proofs.finish.Goals as goal
 
 pub loop-at-init : goal.loop-at-init

@@ -1,17 +1,11 @@
 -- `opening::finish` meets its contract. The invariant: the first `at` routines are the tables' own, the others the lent ones. The tables
 -- have those beyond the first R as they were lent, so at the end all are the tables' own.
-use Prim.Native.Nat.{◌-◌, ◌≤◌, ◌<◌}
-use mathlib.Core.Path.{◌≡◌, refl, sym, ◌∙◌}
-use native.Mathlib.Omega.{arith}
-use borrow.Author.Rules.{rules}
-use lib.ListN.{length}
+use Prim.Native.Nat.{◌-◌, ◌≤◌}
+use mathlib.Core.Path.{◌≡◌}
 use Rattle.layout.specs.Layout.{most_routines}
-use Rattle.game.specs.Game.{blank}
-use Rattle.fitting.proofs.Sizes.{length_mapped}
 use Rattle.numbers.specs.Counting.{list_below}
 use Rattle.tables.specs.Tables.{routine_in}
-use Rattle.numbers.proofs.Lists.{below_length, below_read}
-use Rattle.opening.proofs.Copying.{copied, copy_on, copy_all}
+use Rattle.opening.proofs.Copying.{copied}
 use Rattle.opening.proofs.finish.Given as goal
 
 abbrev pub invariant-loop-at : goal.invariant-loop-at

@@ -1,5 +1,4 @@
 -- `opening::open` meets its contract: those listed and the fields that `settle` gets are those that `join` leaves.
-use borrow.Author.Rules.{rules}
 use Rattle.opening.proofs.open.Goals as goal
 
 pub returns : goal.returns

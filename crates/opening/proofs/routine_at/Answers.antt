@@ -1,5 +1,4 @@
 -- `opening::routine_at` meets its contract: each field is read from its row.
-use borrow.Author.Rules.{rules}
 use Rattle.opening.proofs.routine_at.Goals as goal
 
 pub returns : goal.returns

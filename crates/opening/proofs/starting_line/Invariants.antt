@@ -1,13 +1,9 @@
 -- `opening::starting_line` meets its contract. The invariant: the first `at` entries are the row's and the others 0, as they are in the row
 -- from `count` on.
-use Prim.Native.Nat.{◌-◌, ◌≤◌, ◌<◌}
-use mathlib.Core.Path.{◌≡◌, refl, sym, ◌∙◌}
-use native.Mathlib.Omega.{arith}
-use borrow.Author.Rules.{rules}
-use lib.ListN.{length, replicate, get_or-replicate}
-use Rattle.lines.specs.Lines.{most_entries}
+use Prim.Native.Nat.{◌-◌, ◌≤◌}
+use mathlib.Core.Path.{◌≡◌}
 use Rattle.tables.specs.Tables.{starting_row, last_row}
-use Rattle.opening.proofs.Copying.{copied, copy_on, copy_all, last_length}
+use Rattle.opening.proofs.Copying.{copied}
 use Rattle.opening.proofs.starting_line.Given as goal
 
 abbrev pub invariant-loop-at : goal.invariant-loop-at

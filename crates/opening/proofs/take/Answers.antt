@@ -1,5 +1,4 @@
 -- `opening::take` meets its contract: its stores are the contract's, in the same order.
-use borrow.Author.Rules.{rules}
 use Rattle.opening.proofs.take.Goals as goal
 
 pub returns : goal.returns

@@ -1,10 +1,10 @@
 -- `all_passes` meets its contract: the passes that are still allowed lead to what all that are allowed led to.
-use Prim.Native.Nat.{◌-◌, ◌<◌}
+use Prim.Native.Nat.{◌-◌}
 use mathlib.Core.Path.{◌≡◌, refl, ◌∙◌}
 use native.Mathlib.Omega.{arith}
 use borrow.Author.Tests.{eq-eqb, ne_eqb}
 use Rattle.round.specs.Rounds.{most_passes}
-use Rattle.passing.proofs.AllPasses.{Among, pass_asks, ends, goes, no_pass}
+use Rattle.passing.proofs.AllPasses.{pass_asks, ends, goes, no_pass}
 use Rattle.passing.proofs.all_passes.Goals as goal
 
 pub loop-passes-init : goal.loop-passes-init

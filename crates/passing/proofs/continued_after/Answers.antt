@@ -1,6 +1,5 @@
 -- `continued_after` meets its contract: a turn that is to be continued is the one case that is not done.
 use mathlib.Core.Bool.{and-true, and-false}
-use borrow.Author.Rules.{rules}
 use Rattle.passing.proofs.continued_after.Goals as goal
 
 pub returns-in-PassedOver : goal.returns-in-PassedOver

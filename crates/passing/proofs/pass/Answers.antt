@@ -1,12 +1,11 @@
 -- `pass` meets its contract: what is left of the playing order leads to what the whole order led to, and the entry at hand is its first.
-use Prim.Native.Nat.{◌<◌}
 use mathlib.Core.Path.{◌≡◌, refl, ◌∙◌}
 use native.Mathlib.Omega.{arith}
 use lib.ListN.{length}
 use borrow.Author.Rules.{rules}
-use Rattle.lines.specs.Lines.{most_entries, used_of}
+use Rattle.lines.specs.Lines.{most_entries}
 use Rattle.lines.proofs.Entries.{entries_over}
-use Rattle.passing.proofs.OnePass.{Between, turn_asks, goes_on_lem, pass_none}
+use Rattle.passing.proofs.OnePass.{turn_asks, goes_on_lem, pass_none}
 use Rattle.passing.proofs.pass.Goals as goal
 
 pub loop-at-init : goal.loop-at-init

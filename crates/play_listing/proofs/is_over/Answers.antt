@@ -1,22 +1,18 @@
 -- `play_listing::is_over` meets its contract. The loop's invariant: every entry that was passed names a routine that has ended. An entry
 -- past the arrays names none, and a routine that is not there has not ended.
-use Prim.Native.Nat.{ℕ, ◌-◌, ◌≤◌, ◌<◌}
+use Prim.Native.Nat.{◌<◌}
 use mathlib.Core.Path.{◌≡◌, sym}
 use mathlib.Core.Bool.{Bool, true, false}
-use mathlib.Core.List.{List}
 use native.Mathlib.Omega.{arith}
 use borrow.Author.Rules.{rules}
 use borrow.Author.Tests.{eq-eqb, ne_eqb}
-use lib.Dec.{eqb}
 use lib.ListN.{length, get_or, get_or-eq_default}
 use Rattle.numbers.specs.Counting.{all_below}
 use Rattle.numbers.proofs.Below.{all_fails, all_next, all_ends}
 use Rattle.layout.specs.Layout.{most_routines}
-use Rattle.lines.specs.declared.Line.{Line}
 use Rattle.lines.specs.Lines.{item_at, used_of}
-use Rattle.game.specs.declared.Routine.{Routine}
 use Rattle.game.specs.declared.Game.{Game}
-use Rattle.game.specs.Game.{ended, blank}
+use Rattle.game.specs.Game.{blank}
 use Rattle.fitting.proofs.Sizes.{length_mapped}
 use Rattle.plays.specs.Plays.{is_over}
 use Rattle.play_listing.proofs.is_over.Invariants.{entry_ended}

@@ -1,17 +1,15 @@
 -- `play_listing::list_rounds` meets its contract. The loop's invariant: the lines of the rounds that are left, put behind what is used by
 -- now, give what the lines of all rounds give in the buffer as lent. The measure is how many rounds are left.
-use Prim.Native.Nat.{ℕ, zero, suc, ◌+◌, ◌-◌, ◌≤◌}
+use Prim.Native.Nat.{ℕ, zero, suc, ◌+◌}
 use mathlib.Core.List.{List, [], ◌++◌}
 use mathlib.Core.Path.{◌≡◌, refl, sym, ap, ◌∙◌}
 use mathlib.Core.Bool.{true, false}
 use native.Mathlib.Omega.{arith}
-use borrow.Author.Rules.{rules}
-use lib.ListN.{length}
 use Rattle.game.specs.declared.Game.{Game}
 use Rattle.plays.specs.Plays.{is_over}
 use Rattle.texts.specs.Texts.{filled, with_text}
 use Rattle.texts.proofs.Behind.{then}
-use Rattle.play_listing.specs.Printed.{most_rounds, next_answer, lines_of, lines_from}
+use Rattle.play_listing.specs.Printed.{next_answer, lines_of, lines_from}
 use Rattle.play_listing.proofs.list_rounds.Invariants.{left}
 use Rattle.play_listing.proofs.list_rounds.Goals as goal
 

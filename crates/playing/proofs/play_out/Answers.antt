@@ -1,5 +1,4 @@
 -- `play_out` meets its contract: each buffer has room for a number a step, and behind the passes the tables hold the state of the round.
-use borrow.Author.Rules.{rules}
 use Rattle.playing.proofs.Passes.{passes_asked, passes_done}
 use Rattle.playing.proofs.play_out.Goals as goal
 

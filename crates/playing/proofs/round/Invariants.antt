@@ -1,14 +1,7 @@
 -- `round` meets its contract. The invariant: the first `at` routines are taken apart. Once all are, the round is opened; its passes are
 -- played out, and the tables behind them have the round's game.
 use Prim.Native.Nat.{◌-◌, ◌≤◌}
-use native.Mathlib.Omega.{arith}
-use borrow.Author.Rules.{rules}
-use mathlib.Core.Path.{◌≡◌, subst}
-use Rattle.layout.specs.Layout.{most_routines}
-use Rattle.opening.specs.Games.{Opened}
-use Rattle.opening.proofs.Taking.{Taken, taken_none, take_on}
-use Rattle.opening.proofs.Opened.{few_routines_lem, opened}
-use Rattle.playing.proofs.Finished.{holds_game, finished}
+use Rattle.opening.proofs.Taking.{Taken}
 use Rattle.playing.proofs.round.Given as goal
 
 abbrev pub invariant-loop-at : goal.invariant-loop-at

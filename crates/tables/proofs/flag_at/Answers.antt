@@ -1,7 +1,6 @@
 -- `flag_at` meets its contract: inside the row it reads the list, and beyond it the default.
 use mathlib.Core.Path.{sym}
 use Rattle.tables.proofs.Rows.{row_read, row_beyond}
-use borrow.Author.Rules.{rules}
 use Rattle.tables.proofs.flag_at.Goals as goal
 
 pub returns-then-routine-lt-MOST_ROUTINES : goal.returns-then-routine-lt-MOST_ROUTINES

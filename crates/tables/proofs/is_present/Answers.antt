@@ -1,7 +1,6 @@
 -- `is_present` meets its contract: the last row is the rest of the list.
 use mathlib.Core.Path.{sym}
 use Rattle.tables.proofs.Rows.{last_read}
-use borrow.Author.Rules.{rules}
 use Rattle.tables.proofs.is_present.Goals as goal
 
 pub returns : goal.returns

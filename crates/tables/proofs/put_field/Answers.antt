@@ -1,6 +1,5 @@
 -- `put_field` meets its contract: a store inside the row is the list's, and one beyond it is none.
 use Rattle.tables.proofs.Rows.{put_inside, put_outside}
-use borrow.Author.Rules.{rules}
 use Rattle.tables.proofs.put_field.Goals as goal
 
 pub returns-then-routine-lt-MOST_ROUTINES : goal.returns-then-routine-lt-MOST_ROUTINES

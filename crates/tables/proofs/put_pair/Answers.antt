@@ -5,7 +5,6 @@ use borrow.Author.Tests.{lt-ltb, le-ltb}
 use Rattle.tables.specs.Tables.{pair_put}
 use lib.ListN.{length-set}
 use native.Mathlib.Omega.{arith}
-use borrow.Author.Rules.{rules}
 use Rattle.tables.proofs.put_pair.Goals as goal
 
 pub bounds-pairs-at-then-count-pairs : goal.bounds-pairs-at-then-count-pairs

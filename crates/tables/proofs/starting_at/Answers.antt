@@ -1,7 +1,6 @@
 -- `starting_at` meets its contract: the last row is the rest of the list.
 use mathlib.Core.Path.{sym, ◌∙◌}
 use Rattle.tables.proofs.Rows.{last_read}
-use borrow.Author.Rules.{rules}
 use Rattle.tables.proofs.starting_at.Goals as goal
 
 pub returns : goal.returns

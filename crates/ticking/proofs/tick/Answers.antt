@@ -1,5 +1,4 @@
 -- `ticking::tick` meets its contract.
-use borrow.Author.Rules.{rules}
 use borrow.Author.Tests.{lt-ltb, le-ltb}
 use Rattle.ticking.specs.Acts.{act_at}
 use Rattle.ticking.proofs.tick.Goals as goal

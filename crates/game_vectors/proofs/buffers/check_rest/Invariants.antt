@@ -1,7 +1,6 @@
 -- `game_vectors::buffers::check_rest` is safe and ends. The measure is what is left of the buffer.
 use Prim.Native.Nat.{◌≤◌, ◌-◌}
 use lib.ListN.{length}
-use borrow.Author.Rules.{rules}
 use Rattle.game_vectors.proofs.buffers.check_rest.Given as goal
 
 abbrev pub invariant-loop-at : goal.invariant-loop-at

@@ -2,7 +2,6 @@
 -- The measure is how many are left.
 use Prim.Native.Nat.{◌≤◌, ◌-◌}
 use lib.ListN.{length}
-use borrow.Author.Rules.{rules}
 use Rattle.game_vectors.proofs.changes.change_all.Given as goal
 
 abbrev pub invariant-loop-at : goal.invariant-loop-at

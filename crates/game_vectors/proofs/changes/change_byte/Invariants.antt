@@ -1,7 +1,6 @@
 -- `game_vectors::changes::change_byte` is safe and ends. The loop's invariant: no more values are left than a byte has.
 -- The measure is how many are left.
 use Prim.Native.Nat.{◌≤◌}
-use borrow.Author.Rules.{rules}
 use Rattle.game_vectors.proofs.changes.change_byte.Given as goal
 
 abbrev pub invariant-loop-left : goal.invariant-loop-left

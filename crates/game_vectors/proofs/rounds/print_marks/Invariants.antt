@@ -2,7 +2,6 @@
 -- The measure is what is left of them.
 use Prim.Native.Nat.{◌≤◌, ◌-◌, ◌/◌}
 use lib.ListN.{length}
-use borrow.Author.Rules.{rules}
 use Rattle.game_vectors.proofs.rounds.print_marks.Given as goal
 
 abbrev pub invariant-loop-at : goal.invariant-loop-at

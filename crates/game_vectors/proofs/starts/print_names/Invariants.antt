@@ -2,9 +2,7 @@
 -- The measure is how much room is left.
 use Prim.Native.Nat.{ℕ, ◌+◌, ◌-◌, ◌≤◌}
 use mathlib.Core.Path.{◌≡◌}
-use native.Mathlib.Omega.{arith}
 use lib.ListN.{length}
-use borrow.Author.Rules.{rules}
 use Rattle.layout.specs.Layout.{most_routines}
 use Rattle.game_vectors.proofs.starts.print_names.Given as goal
 

@@ -1,11 +1,9 @@
 -- `actions::broadcast` meets its contract. The invariant: the signals from `at` on, put into the flags as they are, give what all give at
 -- the start.
-use Prim.Native.Nat.{◌+◌, ◌-◌, ◌≤◌}
 use mathlib.Core.Path.{◌≡◌, refl}
 use native.Mathlib.Omega.{arith}
 use borrow.Author.Rules.{rules}
-use lib.ListN.{length, drop}
-use lib.Seq.{sets}
+use lib.ListN.{length}
 use Rattle.layout.specs.Layout.{most_signals}
 use Rattle.tables.specs.Tables.{present_row}
 use Rattle.opening.specs.Actions.{with_signals}

@@ -1,15 +1,12 @@
 -- `actions::broadcast` meets its contract. The invariant: the signals from `at` on, put into the flags as they are, give what all give at
 -- the start.
 use Prim.Native.Nat.{◌+◌, ◌-◌, ◌≤◌}
-use mathlib.Core.Path.{◌≡◌, refl}
-use native.Mathlib.Omega.{arith}
-use borrow.Author.Rules.{rules}
-use lib.ListN.{length, drop}
+use mathlib.Core.Path.{◌≡◌}
+use lib.ListN.{drop}
 use lib.Seq.{sets}
 use Rattle.layout.specs.Layout.{most_signals}
 use Rattle.tables.specs.Tables.{present_row}
 use Rattle.opening.specs.Actions.{with_signals}
-use Rattle.opening.proofs.Signals.{signal_on, signal_over}
 use Rattle.opening.proofs.actions.broadcast.Given as goal
 
 abbrev pub invariant-loop-at : goal.invariant-loop-at

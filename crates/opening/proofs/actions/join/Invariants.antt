@@ -1,13 +1,10 @@
 -- `actions::join` meets its contract. The invariant: the entries from `at` on, put behind the list and into stage 1 as both are, give what
 -- all give at the start.
 use Prim.Native.Nat.{◌-◌, ◌≤◌}
-use mathlib.Core.Path.{◌≡◌, refl}
-use native.Mathlib.Omega.{arith}
-use borrow.Author.Rules.{rules}
-use lib.ListN.{length, drop}
-use Rattle.lines.specs.Lines.{most_entries, line_of, entries_of, appended}
+use mathlib.Core.Path.{◌≡◌}
+use lib.ListN.{drop}
+use Rattle.lines.specs.Lines.{line_of, entries_of, appended}
 use Rattle.opening.specs.Actions.{continued}
-use Rattle.opening.proofs.Loops.{append_on, continue_on, append_over, continue_over}
 use Rattle.opening.proofs.actions.join.Given as goal
 
 abbrev pub invariant-loop-at : goal.invariant-loop-at

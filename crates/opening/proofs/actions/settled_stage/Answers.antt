@@ -1,6 +1,5 @@
 -- `actions::settled_stage` meets its contract: each test of the code is one of the contract.
 use native.Mathlib.Omega.{arith}
-use borrow.Author.Rules.{rules}
 use borrow.Author.Tests.{eq-eqb, ne_eqb}
 use Rattle.opening.proofs.actions.settled_stage.Goals as goal
 

@@ -1,5 +1,4 @@
 -- `actions::stays` meets its contract: the code's test is the contract's.
-use borrow.Author.Rules.{rules}
 use Rattle.opening.proofs.actions.stays.Goals as goal
 
 pub returns : goal.returns

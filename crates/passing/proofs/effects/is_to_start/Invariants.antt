@@ -1,20 +1,12 @@
 -- `effects::is_to_start` meets its contract: no entry that was looked at is the routine, until one is or none is left.
 use Prim.Native.Nat.{ℕ, ◌-◌, ◌≤◌}
-use mathlib.Core.Path.{◌≡◌, refl, sym, ◌∙◌}
+use mathlib.Core.Path.{◌≡◌}
 use mathlib.Core.Bool.{Bool, false}
 use mathlib.Core.List.{List}
-use native.Mathlib.Omega.{arith}
-use native.Mathlib.Decide.{dec_lt}
-use lib.Dec.{eqb, ltb}
+use lib.Dec.{eqb}
 use lib.ListN.{get_or}
-use borrow.Author.Tests.{lt-ltb, le-ltb, eq-eqb, ne_eqb}
-use Rattle.std.specs.Prelude.{if◌then◌else◌}
 use Rattle.numbers.specs.Counting.{any_below}
-use Rattle.numbers.proofs.Below.{any_holds, any_next, any_ends}
-use Rattle.lines.specs.Lines.{most_entries, is_in}
 use Rattle.tables.specs.Tables.{last_row, starting_row}
-use Rattle.passing.specs.Effects.{is_starting}
-use borrow.Author.Rules.{rules}
 use Rattle.passing.proofs.effects.is_to_start.Given as goal
 
 -- entry i of those to start is routine r

@@ -9,7 +9,6 @@ use borrow.Author.Tests.{lt-ltb, le-ltb, eq-eqb, ne_eqb}
 use Rattle.game.specs.Game.{not_started}
 use Rattle.tables.specs.Tables.{stages_row, row_at}
 use Rattle.passing.specs.Effects.{is_starting, adds, started_in, start_count}
-use borrow.Author.Rules.{rules}
 use Rattle.passing.proofs.effects.start.Goals as goal
 
 -- whether the definition adds the routine: not one in another stage, nor one that is already to start, but any other

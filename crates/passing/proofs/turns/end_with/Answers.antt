@@ -3,7 +3,6 @@ use mathlib.Core.Path.{refl, ap, ◌∙◌}
 use lib.ListN.{length}
 use Rattle.tables.proofs.Rows.{put_length}
 use Rattle.passing.proofs.Left.{ended_held}
-use borrow.Author.Rules.{rules}
 use Rattle.passing.proofs.turns.end_with.Goals as goal
 
 pub returns-in-Ended : goal.returns-in-Ended

@@ -1,5 +1,4 @@
 -- `turns::is_passed_over` meets its contract: a flag that is set decides, and otherwise the stage.
-use borrow.Author.Rules.{rules}
 use Rattle.passing.proofs.turns.is_passed_over.Goals as goal
 
 pub returns-then-flag_at : goal.returns-then-flag_at

@@ -1,6 +1,6 @@
 -- `turns::run` meets its contract: the steps that are still allowed lead to what all that are allowed led to, and each step that goes on
 -- has room for its effect.
-use Prim.Native.Nat.{ℕ, ◌<◌}
+use Prim.Native.Nat.{ℕ}
 use mathlib.Core.Path.{◌≡◌, refl, sym, ap, ◌∙◌}
 use mathlib.Core.List.{List}
 use native.Mathlib.Omega.{arith}
@@ -9,8 +9,7 @@ use Rattle.round.specs.declared.Position.{Position}
 use Rattle.round.specs.declared.Act.{Act}
 use Rattle.round.specs.State.{State}
 use Rattle.ticking.specs.Acts.{act_at}
-use Rattle.passing.proofs.Runs.{Inside, goes_fits, effect_room, goes_on_lem, halts, run_over}
-use borrow.Author.Rules.{rules}
+use Rattle.passing.proofs.Runs.{goes_fits, effect_room, goes_on_lem, halts, run_over}
 use Rattle.passing.proofs.turns.run.Goals as goal
 
 -- what the step does is what the definition says

@@ -8,7 +8,6 @@ use Rattle.numbers.specs.Numbers.{half_of}
 use Rattle.kinds.specs.Steps.{step_bytes}
 use Rattle.directory.specs.Directory.{step_count, routine_from}
 use Rattle.directory.proofs.Directory.{steps_there}
-use borrow.Author.Rules.{rules}
 use Rattle.passing.proofs.turns.steps_of.Goals as goal
 
 -- where the entry says that the steps begin, and how many bytes they have

@@ -2,7 +2,6 @@
 -- The measure is what is left of them.
 use Prim.Native.Nat.{ℕ, ◌≤◌, ◌-◌, ◌+◌, ◌*◌}
 use Rattle.layout.specs.Layout.{most_routines, most_signals}
-use borrow.Author.Rules.{rules}
 use Rattle.scripts.proofs.pokes.has_unheld.Given as goal
 
 abbrev pub flags : ℕ

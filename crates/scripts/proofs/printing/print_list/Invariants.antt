@@ -2,7 +2,6 @@
 -- The measure is what is left of them.
 use Prim.Native.Nat.{◌≤◌, ◌-◌}
 use Rattle.lines.specs.Lines.{most_entries}
-use borrow.Author.Rules.{rules}
 use Rattle.scripts.proofs.printing.print_list.Given as goal
 
 abbrev pub invariant-loop-at : goal.invariant-loop-at

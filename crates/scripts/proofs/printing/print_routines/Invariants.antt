@@ -2,7 +2,6 @@
 -- The measure is what is left of them.
 use Prim.Native.Nat.{◌≤◌, ◌-◌}
 use Rattle.layout.specs.Layout.{most_routines}
-use borrow.Author.Rules.{rules}
 use Rattle.scripts.proofs.printing.print_routines.Given as goal
 
 abbrev pub invariant-loop-at : goal.invariant-loop-at

@@ -2,7 +2,6 @@
 -- The measure is what is left of them.
 use Prim.Native.Nat.{◌≤◌, ◌-◌}
 use Rattle.layout.specs.Layout.{most_signals}
-use borrow.Author.Rules.{rules}
 use Rattle.scripts.proofs.printing.print_signals.Given as goal
 
 abbrev pub invariant-loop-at : goal.invariant-loop-at

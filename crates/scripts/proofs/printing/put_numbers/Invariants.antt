@@ -2,7 +2,6 @@
 -- The measure is what is left of it.
 use Prim.Native.Nat.{◌≤◌, ◌-◌}
 use lib.ListN.{length}
-use borrow.Author.Rules.{rules}
 use Rattle.scripts.proofs.printing.put_numbers.Given as goal
 
 abbrev pub invariant-loop-at : goal.invariant-loop-at

@@ -1,5 +1,4 @@
 -- `ticking::jumps::from_end` meets its contract.
-use borrow.Author.Rules.{rules}
 use borrow.Author.Tests.{eq-eqb, ne_eqb}
 use Rattle.round.specs.Jumps.{from_end}
 use Rattle.ticking.proofs.jumps.from_end.Goals as goal

@@ -1,6 +1,5 @@
 -- `ticking::jumps::opening_before` meets its contract. The invariant: the search from `at` on, with so many inner pairs open, is the whole
 -- search; each op takes one of its branches.
-use Prim.Native.Nat.{◌+◌, ◌-◌, ◌≤◌}
 use mathlib.Core.Path.{◌≡◌, refl, sym, ◌∙◌}
 use mathlib.Core.Logic.{inl, inr}
 use native.Mathlib.Omega.{arith}

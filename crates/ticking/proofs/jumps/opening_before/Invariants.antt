@@ -1,13 +1,8 @@
 -- `ticking::jumps::opening_before` meets its contract. The invariant: the search from `at` on, with so many inner pairs open, is the whole
 -- search; each op takes one of its branches.
-use Prim.Native.Nat.{◌+◌, ◌-◌, ◌≤◌}
-use mathlib.Core.Path.{◌≡◌, refl, sym, ◌∙◌}
-use mathlib.Core.Logic.{inl, inr}
-use native.Mathlib.Omega.{arith}
-use borrow.Author.Rules.{rules}
-use borrow.Author.Tests.{eq-eqb, ne_eqb}
+use Prim.Native.Nat.{◌+◌, ◌≤◌}
+use mathlib.Core.Path.{◌≡◌}
 use Rattle.round.specs.Jumps.{opening_before}
-use Rattle.ticking.proofs.Searches.{opening_on}
 use Rattle.ticking.proofs.jumps.opening_before.Given as goal
 
 abbrev pub invariant-loop-at : goal.invariant-loop-at

@@ -1,7 +1,6 @@
 -- `ticking::jumps::past_partner` meets its contract: a partner is no further than the steps go, so that the place behind it is a number.
 use Prim.Native.Nat.{◌+◌, ◌-◌}
 use native.Mathlib.Omega.{arith}
-use borrow.Author.Rules.{rules}
 use Rattle.kinds.specs.Steps.{steps_in}
 use Rattle.round.specs.Jumps.{past_partner}
 use Rattle.ticking.proofs.Searches.{partner_near}

@@ -1,5 +1,4 @@
 -- `ticking::jumps::tests` meets its contract.
-use borrow.Author.Rules.{rules}
 use borrow.Author.Tests.{eq-eqb, ne_eqb}
 use mathlib.Core.Path.{◌≡◌}
 use mir.Facts.{to_z-of_z}

@@ -1,5 +1,4 @@
 -- `ticking::tries::end_there` meets its contract.
-use borrow.Author.Rules.{rules}
 use Rattle.ticking.proofs.tries.end_there.Goals as goal
 
 pub returns-then-counts_as_ended : goal.returns-then-counts_as_ended

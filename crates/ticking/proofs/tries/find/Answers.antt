@@ -1,5 +1,5 @@
 -- `ticking::tries::find` meets its contract. The invariant: so many of the k are left, and they are sought from the pair `at` on.
-use Prim.Native.Nat.{◌-◌, ◌*◌, ◌≤◌}
+use Prim.Native.Nat.{◌*◌}
 use mathlib.Core.Path.{sym}
 use native.Mathlib.Omega.{arith}
 use lib.IntN.{pos}
@@ -9,7 +9,7 @@ use mir.Val.{SFits}
 use mir.Facts.{to_z-of_z}
 use borrow.Author.Rules.{rules}
 use borrow.Author.Tests.{lt-ltb, le-ltb}
-use Rattle.ticking.proofs.Seeking.{Sought, sought_all, passes, counts, found, lost}
+use Rattle.ticking.proofs.Seeking.{sought_all, passes, counts, found, lost}
 use Rattle.ticking.proofs.tries.find.Goals.{then-is_signal+else-left-le1, else-is_signal}
 use Rattle.ticking.proofs.tries.find.Goals as goal
 

@@ -1,5 +1,4 @@
 -- `ticking::tries::rests_for` meets its contract.
-use borrow.Author.Rules.{rules}
 use borrow.Author.Tests.{eq-eqb, ne_eqb}
 use Rattle.ticking.proofs.tries.rests_for.Goals as goal
 

@@ -1,5 +1,4 @@
 -- `ticking::tries::tries` meets its contract.
-use borrow.Author.Rules.{rules}
 use Rattle.ticking.proofs.tries.tries.Goals as goal
 
 pub returns-then-there : goal.returns-then-there

@@ -1,5 +1,4 @@
 -- `ticking::tries::waits_for` meets its contract.
-use borrow.Author.Rules.{rules}
 use borrow.Author.Tests.{eq-eqb, ne_eqb}
 use Rattle.ticking.proofs.tries.waits_for.Goals as goal
 
