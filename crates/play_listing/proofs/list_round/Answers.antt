@@ -17,15 +17,15 @@ few : (book : List ℕ) (g : Game) (a : Answer) → a ≡ answer book g mark_buf
 few book g a e = rw e (marks_few book g mark_buffer)
 
 pub overflow_mul-end : goal.overflow_mul-end
-overflow_mul-end c = let f = few _ _ _ c.play-played.ensures.0 in record { fits = omega arith }
+overflow_mul-end c = let f = few _ _ _ c.play-played.ensures.marks_after in record { fits = omega arith }
 
 pub slice_bounds-marks-end : goal.slice_bounds-marks-end
-slice_bounds-marks-end c = let f = few _ _ _ c.play-played.ensures.0 in omega arith
+slice_bounds-marks-end c = let f = few _ _ _ c.play-played.ensures.marks_after in omega arith
 
 pub slice_bounds-put_round-end : goal.slice_bounds-put_round-end
-slice_bounds-put_round-end c = let f = few _ _ _ c.play-played.ensures.0 in simp length-take (omega arith)
+slice_bounds-put_round-end c = let f = few _ _ _ c.play-played.ensures.marks_after in simp length-take (omega arith)
 
 pub returns : goal.returns
 returns c =
-    let p = c.play-played.ensures.0 in
+    let p = c.play-played.ensures.marks_after in
     rw (← p) (refl, c.put_round-used.ensures)
