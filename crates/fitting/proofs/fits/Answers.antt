@@ -24,6 +24,17 @@ use Rattle.fitting.specs.Fitting.{same_counts, is_sized, fits_book}
 use Rattle.fitting.proofs.Sizes.{is_sized_lem, length_mapped}
 use Rattle.fitting.proofs.fits.Goals as goal
 
+sized : (c : goal.After-loop-at) → is_sized c.args.game ≡ true
+sized c =
+    (is_sized_lem c.args.game).1
+    (record {
+      routines = search (rules, length_mapped);
+      counters = search (rules, length_mapped);
+      listed = search (rules, length_mapped);
+      starting = search (rules, length_mapped);
+      broadcast = search (rules, length_mapped);
+    })
+
 -- the answer of the call is the contract's test of the counts
 counted :
     (one given : Counts) (s : List ℕ) {answer t : Bool} → given ≡ counts_of s → answer ≡ same_counts one given → answer ≡ t →
@@ -150,13 +161,4 @@ returns c =
     let starting = both_true listed (sym c.line_fits-2.ensures.value ∙ c.if-not-line_fits-2.false) in
     let counters = both_true starting (sym c.counters_fit.ensures ∙ c.if-not-counters_fit.false) in
     let signals = both_true counters (sym c.signals_fit.ensures ∙ c.if-not-signals_fit.false) in
-    let sized : is_sized c.args.game ≡ true =
-    (is_sized_lem c.args.game).1
-    (record {
-      routines = search (rules, length_mapped);
-      counters = search (rules, length_mapped);
-      listed = search (rules, length_mapped);
-      starting = search (rules, length_mapped);
-      broadcast = search (rules, length_mapped);
-    }) in
-    all_fit _ _ signals (all_ends (slot_fits _ _) l.invariant.0 l.invariant.1 c.loop-at-test.false) sized
+    all_fit _ _ signals (all_ends (slot_fits _ _) l.invariant.0 l.invariant.1 c.loop-at-test.false) (sized c)
