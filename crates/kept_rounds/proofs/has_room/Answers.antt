@@ -1,7 +1,5 @@
 -- `kept_rounds::has_room` meets its contract: the buffers of the call itself are long enough for the marks of any round and for every game,
 -- so the round is played and its game is stored; how long that is does not depend on them.
-use lib.IntN.{ℤ}
-use Rattle.verdicts.specs.Verdicts.{accepted}
 use Rattle.game.specs.declared.Game.{Game}
 use Prim.Native.Nat.{ℕ, ◌*◌, ◌≤◌}
 use mathlib.Core.Path.{◌≡◌, sym, ap, subst, ◌∙◌}
@@ -19,7 +17,7 @@ use Rattle.stored_games.specs.Calls.{StoreAnswer}
 use Rattle.stored_games.proofs.Forms.{form1_usable}
 use Rattle.stored_games.proofs.Keeping.{stores}
 use Rattle.round.specs.Rounds.{round}
-use Rattle.round.specs.Answers.{Answer, numbers_per_mark, space_for, played_out}
+use Rattle.round.specs.Answers.{Answer, numbers_per_mark, space_for}
 use Rattle.round.proofs.After.{round_fits}
 use Rattle.kept_games.proofs.Longest.{longest_stored}
 use Rattle.kept_rounds.proofs.has_room.Goals as goal
@@ -31,23 +29,20 @@ few_marks book a = omega (arith, count_all (λ p. eqb (op_at (steps_part book) p
 pub round-played-requires : goal.round-played-requires
 round-played-requires c = let (a, fits) = c.requires in (a, fits, few_marks _ a)
 
--- the game behind a round is that of the definition, and it fits
-next : (book : List ℕ) (g : Game) {marks : List ℤ} {a : Answer} → a ≡ played_out accepted (round book g) marks → a.game ≡ (round book g).played.state.game
-next book g e = ap (λ (a : Answer). a.game) e
-
+-- the game behind a round fits
 fitting : {book : List ℕ} {g h : Game} → Accepted book → Fits book g → h ≡ (round book g).played.state.game → Fits book h
 fitting {book = book} {g = g} a fits e = subst (Fits book) (sym e) (round_fits book a g fits)
 
 pub store_fitting-kept-requires : goal.store_fitting-kept-requires
 store_fitting-kept-requires c =
     let (a, fits) = c.requires in
-    let next = next c.args.book.now c.args.game c.round-played.ensures in
+    let next = ap (λ (a : Answer). a.game) c.round-played.ensures in
     rw c.form_1.ensures (record { usable = form1_usable; accepted = (a, fitting a fits next) })
 
 pub returns : goal.returns
 returns c =
     let (a, fits) = c.requires in
-    let next = next c.args.book.now c.args.game c.round-played.ensures in
+    let next = ap (λ (a : Answer). a.game) c.round-played.ensures in
     let fit = fitting a fits next in
     let answer = rw c.form_1.ensures at c.store_fitting-kept.ensures in
     let room = longest_stored c.args.book.now c.round-played.result.game a fit in

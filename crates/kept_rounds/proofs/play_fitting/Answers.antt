@@ -22,7 +22,7 @@ use Rattle.kept_games.specs.Kept.{played_kept}
 use Rattle.kept_games.proofs.Longest.{longest_stored}
 use Rattle.kept_rounds.proofs.Rounds.{played_short_marks, played_short_buffer, played_stored}
 use Rattle.kept_rounds.proofs.play_fitting.Goals as goal
-use Rattle.kept_rounds.proofs.play_fitting.Goals.{then-buffer-lt-MOST_STORED, else-buffer-lt-MOST_STORED}
+use Rattle.kept_rounds.proofs.play_fitting.Goals.{then-buffer-lt-MOST_STORED+else-not-has_room, else-buffer-lt-MOST_STORED}
 
 -- the game behind the round
 abbrev next : List ℕ → Game → Game
@@ -63,7 +63,7 @@ returns c =
     omega (arith, c.mark_steps.ensures.0, c.if-marks-mark_steps.false) in
     let room : length (stored form1 (next book c.args.game)) ≤ length c.args.buffer.now =
     elim c.if-buffer-lt-MOST_STORED.branch [
-      | then-buffer-lt-MOST_STORED w ↦ leb-true _ _ (sym w.has_room.ensures ∙ w.if-not-has_room.false)
+      | then-buffer-lt-MOST_STORED+else-not-has_room w ↦ leb-true _ _ (sym w.has_room.ensures ∙ w.if-not-has_room.false)
       | else-buffer-lt-MOST_STORED w ↦ long_enough a fits w.if-buffer-lt-MOST_STORED.false
     ]
     in

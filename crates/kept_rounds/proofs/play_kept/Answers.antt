@@ -27,7 +27,10 @@ returns-then-verdict-ne0 c =
     let a = c.args in
     let read = c.verdict_of-verdict.ensures ∙ c.read_book.ensures in
     let told = read ∙ sym (book_told a.buffer.now a.length _ (rw read at c.if-verdict-ne0.true)) in
-    promised _ _ _ _ (c.turned_down.ensures _ _ ∙ rw told (sym (play_unread _ _ _ _ (rw told at c.if-verdict-ne0.true))))
+    let p =
+    promised a.book.now a.buffer.now a.length a.marks.now
+    (c.turned_down.ensures a.buffer.now a.marks.now ∙ rw told (sym (play_unread _ _ _ _ (rw told at c.if-verdict-ne0.true)))) in
+    record { marks_after = p.0; lost_le_most_lost = p.1 }
 
 pub returns-then-not-is_kept : goal.returns-then-not-is_kept
 returns-then-not-is_kept c =
@@ -35,10 +38,13 @@ returns-then-not-is_kept c =
     let book = accepted_book (c.verdict_of-verdict.ensures ∙ c.read_book.ensures) c.if-verdict-ne0.false in
     let unformed = sym c.is_kept.ensures ∙ c.if-not-is_kept.true in
     let told = unformed_told a.buffer.now a.length _ book unformed in
-    promised _ _ _ _
-    (c.turned_down-then-not-is_kept.ensures _ _
+    let p =
+    promised a.book.now a.buffer.now a.length a.marks.now
+    (c.turned_down-then-not-is_kept.ensures a.buffer.now a.marks.now
     ∙ rw (c.as_verdict.ensures ∙ sym told)
     (sym (play_unread _ _ _ _ (λ z. omega (arith, ap (λ (v : Verdict). v.number) told, z)))))
+    in
+    record { marks_after = p.0; lost_le_most_lost = p.1 }
 
 pub kept_game-game-requires : goal.kept_game-game-requires
 kept_game-game-requires c = sym c.is_kept.ensures ∙ c.if-not-is_kept.false
@@ -50,10 +56,13 @@ returns-then-not-fits c =
     let formed = sym c.is_kept.ensures ∙ c.if-not-is_kept.false in
     let fits = rw c.kept_game-game.ensures at c.fits.ensures in
     let told = unfit_told a.buffer.now a.length _ book formed (sym fits ∙ c.if-not-fits.true) in
-    promised _ _ _ _
-    (c.turned_down-then-not-fits.ensures _ _
+    let p =
+    promised a.book.now a.buffer.now a.length a.marks.now
+    (c.turned_down-then-not-fits.ensures a.buffer.now a.marks.now
     ∙ rw (c.as_verdict-then-not-fits.ensures ∙ sym told)
     (sym (play_unread _ _ _ _ (λ z. omega (arith, ap (λ (v : Verdict). v.number) told, z)))))
+    in
+    record { marks_after = p.0; lost_le_most_lost = p.1 }
 
 -- what is kept is loadable behind the three checks
 loadable :
@@ -74,4 +83,6 @@ returns c =
     let formed = sym c.is_kept.ensures ∙ c.if-not-is_kept.false in
     let fits = rw c.kept_game-game.ensures at c.fits.ensures in
     let l = loadable book formed (sym fits ∙ c.if-not-fits.false) in
-    promised _ _ _ _ (rw c.kept_game-game.ensures at c.play_fitting.ensures ∙ sym (play_read _ _ _ _ l))
+    let a = c.args in
+    let p = promised a.book.now a.buffer.now a.length a.marks.now (rw c.kept_game-game.ensures at c.play_fitting.ensures ∙ sym (play_read _ _ _ _ l)) in
+    record { marks_after = p.0; lost_le_most_lost = p.1 }
