@@ -1,7 +1,7 @@
 #!/bin/sh
 # two_commits.sh BEFORE AFTER: times books full of tests by the library of two commits, in one program, in five builds as run.sh has them.
 # Each library is proved and built from its commit in target/two_commits, some minutes the first time. Both commits need to have this one's
-# layout of a game.
+# layout of a game, and tools/static_library.sh: commits for an older kit have not.
 set -e
 [ $# = 2 ] || { echo "usage: two_commits.sh BEFORE AFTER" >&2; exit 2; }
 cd "$(dirname "$0")/.."
@@ -12,7 +12,7 @@ mkdir -p "$folder"
 build() {
     [ -d "$folder/$1/.git" ] || { rm -rf "$folder/$1"; git clone --quiet --shared --no-checkout "$PWD" "$folder/$1"; }
     git -C "$folder/$1" checkout --quiet --detach "$2"
-    (cd "$folder/$1" && rt staticlib play_c >"$folder/log" 2>&1) || { cat "$folder/log"; exit 1; }
+    (cd "$folder/$1" && tools/static_library.sh play_c >"$folder/log" 2>&1) || { cat "$folder/log"; exit 1; }
     objcopy --redefine-sym zulqenat_play="zulqenat_play_$1" "$folder/$1/target/staticlib/libplay_c.a" "$folder/libplay_$1.a"
 }
 
