@@ -6,6 +6,8 @@
 set -e
 cd "$(dirname "$0")/.."
 .ci/run
+examples/program.sh rounds
+examples/program.sh game_vectors
 tests/long_scripts.py
 tests/round_model.py tests/plays.in tests/plays.out
 tests/round_model.py tests/papers.in tests/papers.out

@@ -1,7 +1,7 @@
 #!/usr/bin/env python3
 """Runs the program rounds on the example books, on every refused book of the vectors, on books at a limit and on plays without end.
 
-First: the gate, which builds the program. What an accepted book prints is written out here, T3's as document 01 shows it.
+First: examples/program.sh rounds, which builds the program. What an accepted book prints is written out here, T3's as document 01 shows it.
 """
 
 import subprocess

@@ -1,7 +1,7 @@
 #!/usr/bin/env python3
 """Runs game_vectors on a script of more than 8 MB, its own many times over, and on lines that are about as long as a piece of the input.
 
-First: the gate, which builds the program.
+First: examples/program.sh game_vectors, which builds the program.
 """
 import subprocess
 import sys
