@@ -4,14 +4,12 @@ use Prim.Native.Nat.{ℕ, zero, suc, ◌+◌, ◌-◌, ◌≤◌, ◌<◌, min}
 use mathlib.Core.Path.{◌≡◌, refl, ap}
 use mathlib.Core.Bool.{Bool, false, ◌||◌}
 use native.Mathlib.Omega.{arith}
-use Rattle.std.specs.Prelude.{if◌then◌else◌}
+use Rattle.std.specs.Prelude.{Ok, Err, if◌then◌else◌}
 use Rattle.forms.specs.declared.Form.{Form}
 use Rattle.forms.specs.declared.Form.TheVariants.{Plain, Pausing, IfOpening, ElseMarker, WhileOpening, EndMarker}
 use Rattle.forms.specs.Forms.{is_else, is_end}
 use Rattle.blocks.specs.declared.Fault.{Fault}
-use Rattle.blocks.specs.declared.Walk.{Walk}
-use Rattle.blocks.specs.declared.Walk.TheVariants as walk
-use Rattle.blocks.specs.Blocks.{View, beyond, unreadable, stands, else_at, and_then, closed}
+use Rattle.blocks.specs.Blocks.{Walk, past, View, beyond, unreadable, stands, else_at, and_then, closed}
 use Rattle.blocks.specs.Blocks.{else_by, if_by, while_by, step_by, block_step, block_by, step_of}
 use Rattle.blocks.proofs.Views.{Says, says_more, says_then}
 use Rattle.numbers.proofs.Tests.{by_test}
@@ -51,8 +49,8 @@ module _ (at : ℕ → View) (n : ℕ) where
     then_same :
         (w : Walk) (p : ℕ) (next other : ℕ → Bool → ℕ → Walk) → Behind p w →
         ((q : ℕ) (u : Bool) (l : ℕ) → p < q → next q u l ≡ other q u l) → and_then w next ≡ and_then w other
-    then_same (walk.Past q u l) p next other h e = e q u l h
-    then_same (walk.Fault f) p next other h e = refl
+    then_same (Ok w) p next other h e = e w.behind w.pauses w.lowest h
+    then_same (Err f) p next other h e = refl
 
     step_same :
         (rest other : ℕ → Bool → ℕ → Walk) (p : ℕ) →
@@ -61,7 +59,7 @@ module _ (at : ℕ → View) (n : ℕ) where
     step_same rest other p e beyond u l = refl
     step_same rest other p e unreadable u l = refl
     step_same rest other p e (stands f) u l =
-        ap (λ w. if is_else f || is_end f then walk.Past p u l else w)
+        ap (λ w. if is_else f || is_end f then past p u l else w)
         (then_same (step f p) p _ _ (S f p) (λ q v m h. e q (u || v) (min l m) h))
 
     -- a block of the steps from p on, with j or k of them left where both are enough

@@ -8,14 +8,12 @@ use native.Mathlib.Omega.{arith}
 use lib.Dec.{ltb}
 use lib.ListN.{length}
 use borrow.Author.Tests.{lt-ltb, le-ltb}
-use Rattle.std.specs.Prelude.{if◌then◌else◌}
+use Rattle.std.specs.Prelude.{Ok, Err, if◌then◌else◌}
 use Rattle.forms.specs.declared.Form.{Form}
 use Rattle.forms.specs.declared.Form.TheVariants.{Plain, Pausing, IfOpening, ElseMarker, WhileOpening, EndMarker}
 use Rattle.blocks.specs.declared.Fault.{Fault}
 use Rattle.blocks.specs.declared.Fault.TheVariants.{Unreadable, Misnested}
-use Rattle.blocks.specs.declared.Walk.{Walk}
-use Rattle.blocks.specs.declared.Walk.TheVariants as walk
-use Rattle.blocks.specs.Blocks.{View, beyond, unreadable, stands, deepest, routine_of}
+use Rattle.blocks.specs.Blocks.{Walk, View, beyond, unreadable, stands, deepest, routine_of}
 use Rattle.blocks.specs.Parse.{ParsedBlock, Open, open_if, open_else, open_while, opening_of, Reached, Misplaced}
 use Rattle.blocks.proofs.Views.{within, stands_not_beyond, unreadable_not_beyond}
 use Rattle.blocks.proofs.Parses.{block_reached}
@@ -134,12 +132,12 @@ module _ (at : ℕ → View) where
     pub parsed_not_misplaced : {p : ℕ} → ParsedBlock at deepest 0 n → Misplaced at p → ⊥
     parsed_not_misplaced b v = let z : ◌≡◌ {A = ℕ} 0 1 = cc (parsed_last b, misplaced_last v) in omega arith
 
-    misplaced_walk : {p : ℕ} → Misplaced at p → (w : Walk) → routine_of at n ≡ w → w ≡ walk.Fault (Misnested p)
-    misplaced_walk v (walk.Past q u l) e = absurd (parsed_not_misplaced (routine_sound at n out q u l e).1.0 v)
-    misplaced_walk v (walk.Fault (Misnested q)) e = rw (misplaced_one v (misnested at n out inside q e).0)
-    misplaced_walk v (walk.Fault (Unreadable q)) e =
+    misplaced_walk : {p : ℕ} → Misplaced at p → (w : Walk) → routine_of at n ≡ w → w ≡ Err (Misnested p)
+    misplaced_walk v (Ok w) e = absurd (parsed_not_misplaced (routine_sound at n out w.behind w.pauses w.lowest e).1.0 v)
+    misplaced_walk v (Err (Misnested q)) e = rw (misplaced_one v (misnested at n out inside q e).0)
+    misplaced_walk v (Err (Unreadable q)) e =
         let u = (unreadable_reached at n out inside q e).0 in
         cc (misplaced_last v, wrong_last {f = Unreadable q} q u.1 u.2 (unreadable_not_beyond refl) refl)
 
-    pub misplaced_fault : {p : ℕ} → Misplaced at p → routine_of at n ≡ walk.Fault (Misnested p)
+    pub misplaced_fault : {p : ℕ} → Misplaced at p → routine_of at n ≡ Err (Misnested p)
     misplaced_fault v = misplaced_walk v (routine_of at n) refl

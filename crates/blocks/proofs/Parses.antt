@@ -12,10 +12,8 @@ use borrow.Author.Tests.{le-ltb}
 use Rattle.std.specs.Prelude.{if◌then◌else◌}
 use Rattle.forms.specs.declared.Form.{Form}
 use Rattle.forms.specs.declared.Form.TheVariants.{Plain, Pausing, IfOpening, ElseMarker, WhileOpening, EndMarker}
-use Rattle.blocks.specs.declared.Walk.{Walk}
-use Rattle.blocks.specs.declared.Walk.TheVariants as walk
 use Rattle.forms.specs.Forms.{is_else, is_end}
-use Rattle.blocks.specs.Blocks.{View, beyond, unreadable, stands, deepest}
+use Rattle.blocks.specs.Blocks.{Walk, past, View, beyond, unreadable, stands, deepest}
 use Rattle.blocks.specs.Blocks.{if_by, while_by, block_step, block_by, step_of, block_of, routine_of}
 use Rattle.blocks.specs.Parse.{ParsedBlock, ParsedStep, empty, more, plain, pausing, if_only, if_else, loop, block_pauses, step_pauses}
 use Rattle.blocks.specs.Parse.{Open, Reached}
@@ -97,22 +95,22 @@ module _ (at : ℕ → View) (n : ℕ) where
   module _ (step : Form → ℕ → Walk) where
     stop_read :
         (rest : ℕ → Bool → ℕ → Walk) (p : ℕ) (u : Bool) (l : ℕ) (x : View) → Stops x →
-        block_step at n step rest x p u l ≡ walk.Past p u l
+        block_step at n step rest x p u l ≡ past p u l
     stop_read rest p u l beyond t = refl
     stop_read rest p u l unreadable t = absurd t
     stop_read rest p u l (stands f) t = rw t
 
     empty_read :
-        (k p : ℕ) (u : Bool) (l : ℕ) → l ≤ n → Stops (at p) → block_by at n step k p u l ≡ walk.Past p (u || false) (min l n)
+        (k p : ℕ) (u : Bool) (l : ℕ) → l ≤ n → Stops (at p) → block_by at n step k p u l ≡ past p (u || false) (min l n)
     unfolding block_by
     empty_read zero p u l i t = rw (or-false u, min-eq_left i)
     empty_read (suc k) p u l i t = rw (or-false u, min-eq_left i) (stop_read (block_by at n step k) p u l (at p) t)
 
     more_read :
         (k p q e : ℕ) (u v w : Bool) (l m o : ℕ) (f : Form) →
-        at p ≡ stands f → (is_else f || is_end f) ≡ false → step f p ≡ walk.Past q v m →
-        block_by at n step k q (u || v) (min l m) ≡ walk.Past e ((u || v) || w) (min (min l m) o) →
-        block_by at n step (suc k) p u l ≡ walk.Past e (u || (v || w)) (min l (min m o))
+        at p ≡ stands f → (is_else f || is_end f) ≡ false → step f p ≡ past q v m →
+        block_by at n step k q (u || v) (min l m) ≡ past e ((u || v) || w) (min (min l m) o) →
+        block_by at n step (suc k) p u l ≡ past e (u || (v || w)) (min l (min m o))
     unfolding block_by
     more_read k p q e u v w l m o f h i s b =
         let apart : min (min l m) o ≡ min l (min m o) = omega arith in
@@ -120,25 +118,25 @@ module _ (at : ℕ → View) (n : ℕ) where
 
   module _ (block : ℕ → Walk) where
     if_only_read :
-        (p q : ℕ) (u : Bool) (l : ℕ) → block (suc p) ≡ walk.Past q u l → at q ≡ stands EndMarker →
-        if_by at n block p ≡ walk.Past (suc q) false l
+        (p q : ℕ) (u : Bool) (l : ℕ) → block (suc p) ≡ past q u l → at q ≡ stands EndMarker →
+        if_by at n block p ≡ past (suc q) false l
     if_only_read p q u l b k = rw (add-one p, b, k, add-one q)
 
     if_else_read :
-        (p q r : ℕ) (u v : Bool) (l m : ℕ) → block (suc p) ≡ walk.Past q u l → at q ≡ stands ElseMarker →
-        block (suc q) ≡ walk.Past r v m → at r ≡ stands EndMarker → if_by at n block p ≡ walk.Past (suc r) (u && v) (min l m)
+        (p q r : ℕ) (u v : Bool) (l m : ℕ) → block (suc p) ≡ past q u l → at q ≡ stands ElseMarker →
+        block (suc q) ≡ past r v m → at r ≡ stands EndMarker → if_by at n block p ≡ past (suc r) (u && v) (min l m)
     if_else_read p q r u v l m b k c j = rw (add-one p, b, k, add-one q, c, j, add-one r)
 
     loop_read :
-        (p q : ℕ) (u : Bool) (l : ℕ) → block (suc p) ≡ walk.Past q u l → at q ≡ stands EndMarker →
-        while_by at n block p ≡ walk.Past (suc q) false (if u then l else p)
+        (p q : ℕ) (u : Bool) (l : ℕ) → block (suc p) ≡ past q u l → at q ≡ stands EndMarker →
+        while_by at n block p ≡ past (suc q) false (if u then l else p)
     loop_read p q u l b k = rw (add-one p, b, k, add-one q)
 
   module _ (out : (p : ℕ) → n ≤ p → at p ≡ beyond) where
     -- a block before which no while is told
     whole :
-        {d p e : ℕ} (b : ParsedBlock at d p e) → block_of at n d p ≡ walk.Past e (block_pauses at b) (min n (lowest b)) →
-        block_of at n d p ≡ walk.Past e (block_pauses at b) (lowest b)
+        {d p e : ℕ} (b : ParsedBlock at d p e) → block_of at n d p ≡ past e (block_pauses at b) (min n (lowest b)) →
+        block_of at n d p ≡ past e (block_pauses at b) (lowest b)
     whole b read = rw (from_none b) at read
 
     mutual
@@ -146,7 +144,7 @@ module _ (at : ℕ → View) (n : ℕ) where
 
       pub block_complete :
           {d p e : ℕ} (b : ParsedBlock at d p e) → Stops (at e) → (k : ℕ) → n ≤ p + k → (u : Bool) (l : ℕ) → l ≤ n →
-          block_by at n (step_of at n d) k p u l ≡ walk.Past e (u || block_pauses at b) (min l (lowest b))
+          block_by at n (step_of at n d) k p u l ≡ past e (u || block_pauses at b) (min l (lowest b))
       block_complete {d} {p} empty t k h u l i = empty_read (step_of at n d) k p u l i t
       block_complete {d} {p} {e} (more s b) t zero h u l i = absurd (stands_not_beyond (step_stands s) (out p (omega arith)))
       block_complete {d} {p} {e} (more {q = q} s b) t (suc k) h u l i =
@@ -154,7 +152,7 @@ module _ (at : ℕ → View) (n : ℕ) where
           (block_complete b t k (omega (arith, step_goes s)) (u || step_pauses at s) (min l (lowest_of s)) (omega arith))
 
       pub step_complete :
-          {d p e : ℕ} (s : ParsedStep at d p e) → step_of at n d (step_form s) p ≡ walk.Past e (step_pauses at s) (lowest_of s)
+          {d p e : ℕ} (s : ParsedStep at d p e) → step_of at n d (step_form s) p ≡ past e (step_pauses at s) (lowest_of s)
       step_complete (plain {d = zero} {p = p} h) = rw (add-one p)
       step_complete (plain {d = suc d} {p = p} h) = rw (add-one p)
       step_complete (pausing {d = zero} {p = p} h) = rw (add-one p)
@@ -170,7 +168,7 @@ module _ (at : ℕ → View) (n : ℕ) where
           loop_read (block_of at n d) p q _ _
           (whole b (block_complete b (rw k) (n - suc p) (omega arith) false n (omega arith))) k
 
-    pub routine_complete : (b : ParsedBlock at deepest 0 n) → routine_of at n ≡ walk.Past n (block_pauses at b) (lowest b)
+    pub routine_complete : (b : ParsedBlock at deepest 0 n) → routine_of at n ≡ past n (block_pauses at b) (lowest b)
     unfolding routine_of
     routine_complete b =
         let t : Stops (at n) = rw (out n (omega arith)) tt in

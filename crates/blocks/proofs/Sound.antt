@@ -9,16 +9,14 @@ use native.Mathlib.Omega.{arith}
 use lib.Dec.{ltb}
 use lib.ListN.{length}
 use borrow.Author.Tests.{ltb-true, ltb-false}
-use Rattle.std.specs.Prelude.{if◌then◌else◌}
+use Rattle.std.specs.Prelude.{Err, if◌then◌else◌}
 use Rattle.numbers.proofs.Tests.{clash, by_test}
 use Rattle.forms.specs.declared.Form.{Form}
 use Rattle.forms.specs.declared.Form.TheVariants.{Plain, Pausing, IfOpening, ElseMarker, WhileOpening, EndMarker}
 use Rattle.blocks.specs.declared.Fault.{Fault}
 use Rattle.blocks.specs.declared.Fault.TheVariants.{Unreadable, Misnested}
-use Rattle.blocks.specs.declared.Walk.{Walk}
-use Rattle.blocks.specs.declared.Walk.TheVariants as walk
 use Rattle.forms.specs.Forms.{is_else, is_end}
-use Rattle.blocks.specs.Blocks.{View, beyond, unreadable, stands, else_at, and_then, closed, deepest}
+use Rattle.blocks.specs.Blocks.{Walk, past, View, beyond, unreadable, stands, else_at, and_then, closed, deepest}
 use Rattle.blocks.specs.Blocks.{else_by, if_by, while_by, step_by, block_step, block_by, step_of, block_of, routine_of}
 use Rattle.blocks.specs.Parse.{ParsedBlock, ParsedStep, empty, more, plain, pausing, if_only, if_else, loop, block_pauses, step_pauses}
 use Rattle.blocks.specs.Parse.{Open, open_if, open_else, open_while, opening_of, Reached, Misplaced}
@@ -192,18 +190,18 @@ module _ (at : ℕ → View) (n : ℕ) (out : (p : ℕ) → n ≤ p → at p ≡
       let k : q ≡ n = omega (arith, ltb-false q n e, reached_within r) in (k, subst (λ x. ParseIs deepest 0 x u l) k b.0)))
 
   pub routine_sound :
-      (q : ℕ) (u : Bool) (l : ℕ) → routine_of at n ≡ walk.Past q u l →
+      (q : ℕ) (u : Bool) (l : ℕ) → routine_of at n ≡ past q u l →
       (q ≡ n) × ((b : ParsedBlock at deepest 0 n) × (block_pauses at b ≡ u) × (lowest at n b ≡ l))
   routine_sound q u l e = subst (Says RoutineIs FaultInside) e routine_says
 
   module _ (inside : Inside) where
-    pub misnested : (p : ℕ) → routine_of at n ≡ walk.Fault (Misnested p) → Misplaced at p × (p < n)
+    pub misnested : (p : ℕ) → routine_of at n ≡ Err (Misnested p) → Misplaced at p × (p < n)
     misnested p e = subst (Says RoutineIs FaultInside) e routine_says inside
 
     -- the steps before it are read without a fault
     pub unreadable_reached :
-        (p : ℕ) → routine_of at n ≡ walk.Fault (Unreadable p) → ((os : List Open) × Reached at os p × (at p ≡ unreadable)) × (p < n)
+        (p : ℕ) → routine_of at n ≡ Err (Unreadable p) → ((os : List Open) × Reached at os p × (at p ≡ unreadable)) × (p < n)
     unreadable_reached p e = subst (Says RoutineIs FaultInside) e routine_says inside
 
-    pub unreadable_at : (p : ℕ) → routine_of at n ≡ walk.Fault (Unreadable p) → (at p ≡ unreadable) × (p < n)
+    pub unreadable_at : (p : ℕ) → routine_of at n ≡ Err (Unreadable p) → (at p ≡ unreadable) × (p < n)
     unreadable_at p e = let u = unreadable_reached p e in (u.0.2, u.1)

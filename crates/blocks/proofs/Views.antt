@@ -7,18 +7,16 @@ use mathlib.Core.List.{List}
 use native.Mathlib.Decide.{dec_lt}
 use native.Mathlib.Omega.{arith}
 use borrow.Author.Tests.{lt-ltb, le-ltb}
+use Rattle.std.specs.Prelude.{Option, Some, None, Ok, Err}
 use Rattle.numbers.proofs.Tests.{clash}
-use Rattle.kinds.specs.declared.Step.{Step}
-use Rattle.kinds.specs.declared.Step.TheVariants as step
+use Rattle.kinds.specs.declared.Kind.{Kind}
 use Rattle.kinds.specs.declared.Counts.{Counts}
 use Rattle.forms.specs.declared.Form.{Form}
 use Rattle.forms.specs.declared.Form.TheVariants.{Plain, Pausing, IfOpening, ElseMarker, WhileOpening, EndMarker}
 use Rattle.blocks.specs.declared.Fault.{Fault}
-use Rattle.blocks.specs.declared.Walk.{Walk}
-use Rattle.blocks.specs.declared.Walk.TheVariants as walk
 use Rattle.kinds.specs.Steps.{step_at}
 use Rattle.forms.specs.Forms.{is_else, is_end}
-use Rattle.blocks.specs.Blocks.{View, beyond, unreadable, stands, view_at, seen, and_then}
+use Rattle.blocks.specs.Blocks.{Walk, View, beyond, unreadable, stands, view_at, seen, and_then}
 
 pub stands_not_beyond : {x : View} {f : Form} → x ≡ stands f → x ≡ beyond → ⊥
 stands_not_beyond h k = let z : ◌≡◌ {A = ℕ} 0 1 = cc in omega arith
@@ -26,9 +24,9 @@ stands_not_beyond h k = let z : ◌≡◌ {A = ℕ} 0 1 = cc in omega arith
 pub unreadable_not_beyond : {x : View} → x ≡ unreadable → x ≡ beyond → ⊥
 unreadable_not_beyond h k = let z : ◌≡◌ {A = ℕ} 0 1 = cc in omega arith
 
-pub seen_stands : (s : Step) → seen s ≡ beyond → ⊥
-seen_stands (step.Kind k) e = stands_not_beyond refl e
-seen_stands step.Refused e = unreadable_not_beyond refl e
+pub seen_stands : (s : Option Kind) → seen s ≡ beyond → ⊥
+seen_stands (Some k) e = stands_not_beyond refl e
+seen_stands None e = unreadable_not_beyond refl e
 
 -- a block stops behind the last step or at a marker
 abbrev pub Stops : View → Type 0
@@ -74,21 +72,21 @@ standing_below counts part n p h = stands_within (view_at counts part n) n (view
 
 -- what an answer says: P of what is past, F of a fault
 abbrev pub Says : (ℕ → Bool → ℕ → Type 0) → (Fault → Type 0) → Walk → Type 0
-Says P F (walk.Past q u l) = P q u l
-Says P F (walk.Fault f) = F f
+Says P F (Ok w) = P w.behind w.pauses w.lowest
+Says P F (Err f) = F f
 
 module _ (P Q : ℕ → Bool → ℕ → Type 0) (F : Fault → Type 0) where
   pub says_more : (w : Walk) → Says P F w → ((q : ℕ) (u : Bool) (l : ℕ) → P q u l → Q q u l) → Says Q F w
-  says_more (walk.Past q u l) h k = k q u l h
-  says_more (walk.Fault f) h k = h
+  says_more (Ok w) h k = k w.behind w.pauses w.lowest h
+  says_more (Err f) h k = h
 
   pub says_then :
       (w : Walk) (next : ℕ → Bool → ℕ → Walk) →
       Says P F w → ((q : ℕ) (u : Bool) (l : ℕ) → P q u l → Says Q F (next q u l)) → Says Q F (and_then w next)
-  says_then (walk.Past q u l) next h k = k q u l h
-  says_then (walk.Fault f) next h k = h
+  says_then (Ok w) next h k = k w.behind w.pauses w.lowest h
+  says_then (Err f) next h k = h
 
 pub says_fault :
     (P : ℕ → Bool → ℕ → Type 0) (F G : Fault → Type 0) (w : Walk) → Says P F w → ((f : Fault) → F f → G f) → Says P G w
-says_fault P F G (walk.Past q u l) h k = h
-says_fault P F G (walk.Fault f) h k = k f h
+says_fault P F G (Ok w) h k = h
+says_fault P F G (Err f) h k = k f h

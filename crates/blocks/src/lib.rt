@@ -8,10 +8,11 @@ pub enum Fault {
     Misnested(usize),
 }
 
-// What reading a block or a step finds: the place behind it, whether it pauses, and the lowest while in it whose body
-// does not (the routine's step count where there is none); or a fault.
+// What reading a block or a step finds where no fault stops it: the place behind it, whether it pauses, and the lowest while in it whose
+// body does not. That is the routine's step count where there is none, so that the lower of two is their minimum.
 #[derive(Clone, Copy)]
-pub enum Walk {
-    Past(usize, bool, usize),
-    Fault(Fault),
+pub struct Walked {
+    pub behind: usize,
+    pub pauses: bool,
+    pub lowest: usize,
 }

@@ -5,29 +5,26 @@ use mathlib.Core.Path.{◌≡◌, refl, ◌∙◌, ap}
 use mathlib.Core.List.{List}
 use native.Mathlib.Decide.{dec_lt}
 use native.Mathlib.Omega.{arith}
-use lib.Dec.{eqb}
 use lib.ListN.{length}
-use borrow.Author.Tests.{eqb-true, le-leb, lt-leb, lt-ltb, le-ltb, eq-eqb, ne_eqb}
+use borrow.Author.Tests.{le-leb, lt-leb, lt-ltb, le-ltb}
+use Rattle.std.specs.Prelude.{Option, Some, None, Ok, Err}
 use Rattle.numbers.proofs.Tests.{not_true_false}
 use Rattle.verdicts.specs.declared.Verdict.{Verdict}
 use Rattle.kinds.specs.declared.Kind.{Kind}
-use Rattle.kinds.specs.declared.Step.{Step}
-use Rattle.kinds.specs.declared.Step.TheVariants as step
 use Rattle.blocks.specs.declared.Fault.TheVariants.{Unreadable, Misnested}
-use Rattle.blocks.specs.declared.Walk.{Walk}
-use Rattle.blocks.specs.declared.Walk.TheVariants as walk
-use Rattle.verdicts.specs.Verdicts.{accepted, refused, ◌or_else◌, unless, first_refusal}
+use Rattle.verdicts.specs.Verdicts.{accepted, refused}
 use Rattle.layout.specs.Layout.{header_bytes, counts_fit, layout_fits, layout_verdict, counts_of}
 use Rattle.layout.specs.Layout.{routines_of, steps_of}
-use Rattle.directory.specs.Directory.{first_step, step_count, steps_before, EntriesFollow, entry_verdict, directory_verdict, routine_part}
+use Rattle.directory.specs.Directory.{first_step, step_count, directory_verdict, routine_part}
 use Rattle.kinds.specs.Steps.{step_at}
-use Rattle.blocks.specs.Blocks.{beyond, unreadable, seen}
+use Rattle.blocks.specs.Blocks.{Walk, past, beyond, unreadable, seen}
 use Rattle.book.specs.Book.{steps_part, view_of, routine_walk, step_verdict, nesting_of, nesting_at, pausing_at}
 use Rattle.blocks.specs.Parse.{WhilesPause, block_pauses, Misplaced}
 use Rattle.book.specs.Accepted.{CountsInRange, OffsetsRight, LaidOut, DirectoryRight, ReadableStep, AllReadable, Nests, AllNest}
-use Rattle.verdicts.proofs.First.{or_else_both, or_else_past, or_else_told, Decides, all_good, all_clear, first_told}
-use Rattle.book.proofs.Laid.{passed, counts_in_range, counts_fit_lem, offsets_in_place}
+use Rattle.verdicts.proofs.First.{Decides}
+use Rattle.book.proofs.Laid.{counts_in_range, counts_fit_lem, offsets_in_place}
 use Rattle.directory.proofs.Directory.{routine_within}
+use Rattle.directory.proofs.Directory as directory
 use Rattle.kinds.proofs.Readable.{readable_step, step_readable}
 use Rattle.book.proofs.Parts.{step_of_book, step_routine}
 use Rattle.blocks.proofs.Views.{view_beyond, view_seen, view_inside}
@@ -35,10 +32,6 @@ use Rattle.blocks.proofs.Parses.{routine_complete, lowest}
 use Rattle.blocks.proofs.Sound.{routine_sound, misnested, unreadable_at}
 use Rattle.blocks.proofs.Misplaced.{misplaced_fault}
 use Rattle.blocks.proofs.Whiles.{LowestAt, lowest_none, pausing_lowest, lowest_at, lowest_within, lowest_is}
-
--- a test of the directory that tells nothing
-equal : (a b r : ℕ) → (unless (eqb a b) (refused 4 r)).number ≡ 0 → a ≡ b
-equal a b r e = eqb-true a b (passed (eqb a b) 4 r (λ z. omega (arith, z)) e)
 
 module _ (s : List ℕ) where
   -- checks 1 to 3
@@ -54,53 +47,23 @@ module _ (s : List ℕ) where
   unfolding layout_verdict
   offsets_told h c n = rw (le-leb _ _ h, counts_fit_lem s c, not_true_false (layout_fits s) (λ e. n (offsets_in_place s e)))
 
-  -- check 4: the entries, and then the total
-  pub entries_decided : Decides (entry_verdict s) (routines_of s) (λ r. first_step s r ≡ steps_before s r)
-  entries_decided =
-      record {
-        clear = λ r l e. rw (eq-eqb _ _ e);
-        good = λ r l e. equal (first_step s r) (steps_before s r) r e;
-      }
-
-  pub entry_wrong : (r : ℕ) → (first_step s r ≡ steps_before s r → ⊥) → entry_verdict s r ≡ refused 4 r
-  entry_wrong r n = rw (ne_eqb _ _ n)
-
+  -- check 4
   pub directed : (directory_verdict s).number ≡ 0 → DirectoryRight s
-  unfolding directory_verdict
-  directed e =
-      let both = or_else_both _ _ e in
-      record {
-        entries = all_good entries_decided both.0;
-        total = equal (steps_before s (routines_of s)) (steps_of s) (routines_of s) both.1;
-      }
-
-  past_entries : EntriesFollow s (routines_of s) → {v : Verdict} → (first_refusal (entry_verdict s) (routines_of s) 0 or_else v) ≡ v
-  past_entries entries = or_else_past _ _ (all_clear entries_decided entries)
+  directed e = let right = directory.directed s e in record { entries = right.0; total = right.1 }
 
   pub directory_clear : DirectoryRight s → directory_verdict s ≡ accepted
-  unfolding directory_verdict
-  directory_clear d = past_entries d.entries ∙ rw (eq-eqb _ _ d.total)
-
-  pub total_told :
-      EntriesFollow s (routines_of s) → (steps_before s (routines_of s) ≡ steps_of s → ⊥) → directory_verdict s ≡ refused 4 (routines_of s)
-  unfolding directory_verdict
-  total_told entries n = past_entries entries ∙ rw (ne_eqb _ _ n)
-
-  pub entry_told :
-      (r : ℕ) → r < routines_of s → EntriesFollow s r → (first_step s r ≡ steps_before s r → ⊥) → directory_verdict s ≡ refused 4 r
-  unfolding directory_verdict
-  entry_told r l before n = or_else_told _ _ (first_told entries_decided r l before (entry_wrong r n))
+  directory_clear d = directory.directory_clear s d.entries d.total
 
 -- a step's answer, by its kind
-kind_of_lem : (x : Step) (i : ℕ) → (step_verdict x i).number ≡ 0 → (k : Kind) × (x ≡ step.Kind k)
-kind_of_lem (step.Kind k) i e = (k, refl)
-kind_of_lem step.Refused i e = absurd (omega (arith, e))
+kind_of_lem : (x : Option Kind) (i : ℕ) → (step_verdict x i).number ≡ 0 → (k : Kind) × (x ≡ Some k)
+kind_of_lem (Some k) i e = (k, refl)
+kind_of_lem None i e = absurd (omega (arith, e))
 
-no_kind : (x : Step) (i : ℕ) → ((k : Kind) → x ≡ step.Kind k → ⊥) → step_verdict x i ≡ refused 5 i
-no_kind (step.Kind k) i h = absurd (h k refl)
-no_kind step.Refused i h = refl
+no_kind : (x : Option Kind) (i : ℕ) → ((k : Kind) → x ≡ Some k → ⊥) → step_verdict x i ≡ refused 5 i
+no_kind (Some k) i h = absurd (h k refl)
+no_kind None i h = refl
 
-pub kind_seen : {x : Step} {k : Kind} → x ≡ step.Kind k → seen x ≡ unreadable → ⊥
+pub kind_seen : {x : Option Kind} {k : Kind} → x ≡ Some k → seen x ≡ unreadable → ⊥
 kind_seen e u = let z : ◌≡◌ {A = ℕ} 0 1 = cc in omega arith
 
 -- check 5
@@ -129,7 +92,7 @@ module _ (s : List ℕ) (r : ℕ) where
   abbrev lowest_while : Nests s r → ℕ
   lowest_while b = lowest (view_of s r) (step_count s r) b
 
-  walk_past : (b : Nests s r) → routine_walk s r ≡ walk.Past (step_count s r) (block_pauses (view_of s r) b) (lowest_while b)
+  walk_past : (b : Nests s r) → routine_walk s r ≡ past (step_count s r) (block_pauses (view_of s r) b) (lowest_while b)
   unfolding routine_walk
   walk_past b = routine_complete (view_of s r) (step_count s r) out b
 
@@ -142,9 +105,9 @@ module _ (s : List ℕ) (r : ℕ) where
 
   nests_by : (w : Walk) → routine_walk s r ≡ w → (nesting_of (first_step s r) w).number ≡ 0 → Nests s r
   unfolding routine_walk
-  nests_by (walk.Past q u l) h e = (routine_sound (view_of s r) (step_count s r) out q u l h).1.0
-  nests_by (walk.Fault (Unreadable p)) h e = absurd (omega (arith, e))
-  nests_by (walk.Fault (Misnested p)) h e = absurd (omega (arith, e))
+  nests_by (Ok w) h e = (routine_sound (view_of s r) (step_count s r) out w.behind w.pauses w.lowest h).1.0
+  nests_by (Err (Unreadable p)) h e = absurd (omega (arith, e))
+  nests_by (Err (Misnested p)) h e = absurd (omega (arith, e))
 
   pub clear_nests : (nesting_at s r).number ≡ 0 → Nests s r
   clear_nests e = nests_by (routine_walk s r) refl e
@@ -154,10 +117,10 @@ module _ (s : List ℕ) (r : ℕ) where
     misplaced_by :
         (w : Walk) → routine_walk s r ≡ w → ((nesting_of (first_step s r) w).number ≡ 0 → ⊥) → (p : ℕ) × Misplaced (view_of s r) p
     unfolding routine_walk
-    misplaced_by (walk.Past q u l) h n = absurd (n refl)
-    misplaced_by (walk.Fault (Unreadable p)) h n =
+    misplaced_by (Ok w) h n = absurd (n refl)
+    misplaced_by (Err (Unreadable p)) h n =
         let wrong = unreadable_at (view_of s r) (step_count s r) out inside p h in absurd (read p wrong.1 wrong.0)
-    misplaced_by (walk.Fault (Misnested p)) h n = (p, (misnested (view_of s r) (step_count s r) out inside p h).0)
+    misplaced_by (Err (Misnested p)) h n = (p, (misnested (view_of s r) (step_count s r) out inside p h).0)
 
     pub some_misplaced : ((nesting_at s r).number ≡ 0 → ⊥) → (p : ℕ) × Misplaced (view_of s r) p
     some_misplaced n = misplaced_by (routine_walk s r) refl n

@@ -1,23 +1,18 @@
 -- Checks 1 to 3 tell nothing exactly where a book is laid out as document 01 says.
 -- Each test of the verdict is a clause of `LaidOut`: a test that tells nothing has passed, and says its clause.
 use Prim.Native.Nat.{ℕ}
-use mathlib.Core.Path.{◌≡◌, refl}
-use mathlib.Core.Bool.{Bool, true, false}
+use mathlib.Core.Path.{◌≡◌}
+use mathlib.Core.Bool.{true}
 use mathlib.Core.List.{List}
 use lib.ListN.{length}
 use lib.Dec.{leb}
 use native.Mathlib.Omega.{arith}
 use borrow.Author.Tests.{leb-true, eqb-true, le-leb, eq-eqb}
 use Rattle.numbers.proofs.Tests.{and_both}
-use Rattle.verdicts.specs.Verdicts.{accepted, refused, unless}
+use Rattle.verdicts.specs.Verdicts.{accepted}
 use Rattle.layout.specs.Layout.{header_bytes, counts_fit, layout_fits, layout_verdict}
 use Rattle.book.specs.Accepted.{CountsInRange, OffsetsRight, LaidOut}
-use Rattle.verdicts.proofs.First.{or_else_both}
-
--- a test that tells nothing has passed
-pub passed : (t : Bool) (k p : ℕ) → (k ≡ 0 → ⊥) → (unless t (refused k p)).number ≡ 0 → t ≡ true
-passed true k p h e = refl
-passed false k p h e = absurd (h e)
+use Rattle.verdicts.proofs.First.{passed, or_else_both}
 
 pub counts_in_range : (s : List ℕ) → counts_fit s ≡ true → CountsInRange s
 counts_in_range s e =

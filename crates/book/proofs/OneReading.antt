@@ -6,17 +6,15 @@ use mathlib.Core.Path.{◌≡◌, refl, ◌∙◌, ap, sym}
 use mathlib.Core.List.{List}
 use native.Mathlib.Decide.{ℕ_discrete, dec_lt}
 use native.Mathlib.Omega.{arith}
+use Rattle.std.specs.Prelude.{Option, Some, None, Ok, Err}
 use Rattle.numbers.specs.Counting.{sum_below}
-use Rattle.kinds.specs.declared.Step.{Step}
-use Rattle.kinds.specs.declared.Step.TheVariants as step
 use Rattle.blocks.specs.declared.Fault.TheVariants.{Unreadable, Misnested}
-use Rattle.blocks.specs.declared.Walk.{Walk}
-use Rattle.blocks.specs.declared.Walk.TheVariants as walk
 use Rattle.verdicts.specs.Verdicts.{accepted, refused, ◌or_else◌}
 use Rattle.layout.specs.Layout.{routines_of, steps_of, counts_of}
 use Rattle.directory.specs.Directory.{first_step, step_count, steps_before, directory_verdict, routine_part}
+use Rattle.kinds.specs.declared.Kind.{Kind}
 use Rattle.kinds.specs.Steps.{step_at}
-use Rattle.blocks.specs.Blocks.{unreadable, seen}
+use Rattle.blocks.specs.Blocks.{Walk, unreadable, seen}
 use Rattle.blocks.specs.Parse.{Open, Reached}
 use Rattle.book.specs.Book.{steps_part, step_verdict, view_of, routine_walk, nesting_of, steps_verdict, nesting_verdict, pausing_verdict}
 use Rattle.book.specs.Accepted.{DirectoryRight, AllNest}
@@ -30,13 +28,13 @@ use Rattle.book.proofs.Parts.{step_routine}
 use Rattle.book.proofs.Decided.{directed, kind_seen, step_verdict_of, nesting_decided}
 
 -- check 5 tells a step exactly where a reader finds it unreadable
-readable_clear : (x : Step) (i : ℕ) → (seen x ≡ unreadable → ⊥) → (step_verdict x i).number ≡ 0
-readable_clear (step.Kind k) i h = refl
-readable_clear step.Refused i h = absurd (h refl)
+readable_clear : (x : Option Kind) (i : ℕ) → (seen x ≡ unreadable → ⊥) → (step_verdict x i).number ≡ 0
+readable_clear (Some k) i h = refl
+readable_clear None i h = absurd (h refl)
 
-unreadable_told : (x : Step) (i : ℕ) → seen x ≡ unreadable → step_verdict x i ≡ refused 5 i
-unreadable_told (step.Kind k) i h = absurd (kind_seen {k = k} refl h)
-unreadable_told step.Refused i h = refl
+unreadable_told : (x : Option Kind) (i : ℕ) → seen x ≡ unreadable → step_verdict x i ≡ refused 5 i
+unreadable_told (Some k) i h = absurd (kind_seen {k = k} refl h)
+unreadable_told None i h = refl
 
 module _ (s : List ℕ) where
   -- check 5 tells nothing of step i, and of the first n steps
@@ -51,7 +49,7 @@ module _ (s : List ℕ) where
 
   -- the step at a place of routine r
   module _ (r p : ℕ) (l : p < step_count s r) where
-    abbrev own : Step
+    abbrev own : Option Kind
     own = step_at (counts_of s) (steps_part s) (first_step s r + p)
 
     place_seen : view_of s r p ≡ seen own
@@ -92,9 +90,9 @@ module _ (s : List ℕ) where
         ((nesting_of (first_step s r) w).number ≡ 0 → ⊥) → ((nesting_of (first_step s r) w).number ≡ 6 → ⊥) →
         steps_verdict s ≡ nesting_of (first_step s r) w
     unfolding routine_walk steps_verdict
-    fault_told r h nests (walk.Past q u l) e some other = absurd (some refl)
-    fault_told r h nests (walk.Fault (Misnested p)) e some other = absurd (other refl)
-    fault_told r h nests (walk.Fault (Unreadable p)) e some other =
+    fault_told r h nests (Ok w) e some other = absurd (some refl)
+    fault_told r h nests (Err (Misnested p)) e some other = absurd (other refl)
+    fault_told r h nests (Err (Unreadable p)) e some other =
         let found = unreadable_reached (view_of s r) (step_count s r) (view_beyond _ _ _) (view_inside _ _ _) p e in
         let within = routine_within s dir.entries dir.total r h in
         let before = reached_clear r p h (nesting_clear r (omega arith) nests) found.0.1 (omega arith) in

@@ -21,7 +21,8 @@ use Rattle.verdicts.proofs.First.{or_else_clear, or_else_refused, or_else_both, 
 use Rattle.verdicts.proofs.First.{all_good, all_clear, not_good, first_claim, first_told}
 use Rattle.book.proofs.Laid.{counts_in_range, counts_fit_lem, layout_fits_lem, laid_out, laid_back}
 use Rattle.book.proofs.Decided.{short_told, counts_told, offsets_told}
-use Rattle.book.proofs.Decided.{entries_decided, entry_wrong, directed, directory_clear, total_told, entry_told}
+use Rattle.directory.proofs.Directory.{entries_decided, entry_wrong, total_told, entry_told}
+use Rattle.book.proofs.Decided.{directed, directory_clear}
 use Rattle.book.proofs.Decided.{steps_decided, step_wrong, nesting_decided, pausing_decided, readable_places}
 use Rattle.book.proofs.Decided.{misplaced_told, endless_told, some_misplaced, some_endless}
 

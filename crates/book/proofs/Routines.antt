@@ -11,8 +11,8 @@ use native.Mathlib.Nat.{mul-div_right}
 use native.Mathlib.Omega.{arith}
 use borrow.Author.Tests.{lt-ltb, le-ltb}
 use lib.ListN.{length}
+use Rattle.std.specs.Prelude.{Some}
 use Rattle.kinds.specs.declared.Kind.{Kind}
-use Rattle.kinds.specs.declared.Step.TheVariants as step
 use Rattle.forms.specs.declared.Form.TheVariants.{ElseMarker, EndMarker}
 use Rattle.layout.specs.Layout.{routines_of, steps_of, counts_of}
 use Rattle.directory.specs.Directory.{first_step, step_count, routine_from, routine_part, routine_steps}
@@ -59,7 +59,7 @@ none_shown s r e = (rw e, rw e)
 
 module _ (s : List ℕ) (a : Accepted s) where
   -- each step is one of the kinds
-  pub step_kind : (i : ℕ) → i < steps_of s → (k : Kind) × (step_at (counts_of s) (steps_part s) i ≡ step.Kind k)
+  pub step_kind : (i : ℕ) → i < steps_of s → (k : Kind) × (step_at (counts_of s) (steps_part s) i ≡ Some k)
   step_kind i h =
       let there = step_of_book s a.laid.offsets.size i h in
       (kind_at (steps_part s) i, readable_step (counts_of s) (steps_part s) i there (a.readable i h))
@@ -92,7 +92,7 @@ module _ (s : List ℕ) (a : Accepted s) where
     shown_step i l =
         rw shown_routine (step_taken (step_count s r) (routine_part s r) i l (counts_of s)) ∙ step_routine s r (counts_of s) i
 
-    pub shown_kind : (i : ℕ) → i < step_count s r → (k : Kind) × (step_at (counts_of s) (shown s r) i ≡ step.Kind k)
+    pub shown_kind : (i : ℕ) → i < step_count s r → (k : Kind) × (step_at (counts_of s) (shown s r) i ≡ Some k)
     shown_kind i l =
         let (k, e) = step_kind (first_step s r + i) (omega (arith, routine_within r h)) in
         (k, shown_step i l ∙ e)

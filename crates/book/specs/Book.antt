@@ -1,21 +1,18 @@
 -- Reading a book and showing a routine: document 01, "Turned down because of the input".
-use Rattle.std.specs.Prelude.{ℕ, ◌+◌, Bool, ◌&&◌, List, [], eqb, ltb, drop, if◌then◌else◌}
+use Rattle.std.specs.Prelude.{ℕ, ◌+◌, Bool, ◌&&◌, List, [], eqb, ltb, drop, if◌then◌else◌, Option, Some, None, Ok, Err}
 use Rattle.verdicts.specs.declared.Verdict.{Verdict}
-use Rattle.kinds.specs.declared.Step.{Step}
-use Rattle.kinds.specs.declared.Step.TheVariants as step
 use Rattle.blocks.specs.declared.Fault.TheVariants.{Unreadable, Misnested}
-use Rattle.blocks.specs.declared.Walk.{Walk}
-use Rattle.blocks.specs.declared.Walk.TheVariants as walk
 use Rattle.verdicts.specs.Verdicts.{accepted, refused, ◌or_else◌, first_refusal}
 use Rattle.layout.specs.Layout.{routines_of, steps_of, steps_from, layout_verdict, counts_of}
 use Rattle.directory.specs.Directory.{first_step, step_count, directory_verdict, routine_from, routine_part, routine_steps}
+use Rattle.kinds.specs.declared.Kind.{Kind}
 use Rattle.kinds.specs.Steps.{step_at}
-use Rattle.blocks.specs.Blocks.{View, view_at, routine_of}
+use Rattle.blocks.specs.Blocks.{Walk, View, view_at, routine_of}
 
 -- 5. "A step has an unknown op, a field out of range or a stray field: place is the first such step of the book."
-abbrev pub step_verdict : Step → ℕ → Verdict
-step_verdict (step.Kind k) i = accepted
-step_verdict step.Refused i = refused 5 i
+abbrev pub step_verdict : Option Kind → ℕ → Verdict
+step_verdict (Some k) i = accepted
+step_verdict None i = refused 5 i
 
 abbrev pub steps_part : List ℕ → List ℕ
 steps_part s = drop (steps_from s) s
@@ -33,14 +30,14 @@ routine_walk s r = routine_of (view_of s r) (step_count s r)
 -- 6. "Wrong nesting .. Place is the step reached in reading order, routine by routine, numbered from the book's first step as in 5 and 7"
 -- (The 5 stands for a reader's own refusal of a step; once check 5 has passed it is never told here.)
 abbrev pub nesting_of : ℕ → Walk → Verdict
-nesting_of first (walk.Past q u l) = accepted
-nesting_of first (walk.Fault (Unreadable p)) = refused 5 (first + p)
-nesting_of first (walk.Fault (Misnested p)) = refused 6 (first + p)
+nesting_of first (Ok w) = accepted
+nesting_of first (Err (Unreadable p)) = refused 5 (first + p)
+nesting_of first (Err (Misnested p)) = refused 6 (first + p)
 
 -- 7. "A while's body doesn't pause: the lowest such while."
 abbrev pub pausing_of : ℕ → ℕ → Walk → Verdict
-pausing_of first n (walk.Past q u l) = if ltb l n then refused 7 (first + l) else accepted
-pausing_of first n (walk.Fault f) = accepted
+pausing_of first n (Ok w) = if ltb w.lowest n then refused 7 (first + w.lowest) else accepted
+pausing_of first n (Err f) = accepted
 
 abbrev pub nesting_at : List ℕ → ℕ → Verdict
 nesting_at s r = nesting_of (first_step s r) (routine_walk s r)

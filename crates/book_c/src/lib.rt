@@ -1,5 +1,6 @@
 #![tactic(auto)]
-// The calls with which a C program checks a book, and names the routines that nobody starts.
+// The calls with which a C program checks a book, and names the routines that nobody starts. `zulqenat` exports the same two: this
+// archive has them alone, and exported names stay.
 ghost use Rattle.std.specs.Prelude.{◌≡◌};
 ghost use Rattle.book.specs.Book.{book_verdict};
 ghost use Rattle.unstarted.specs.Unstarted.{names_for, names};

@@ -1,96 +1,148 @@
 #![tactic(auto)]
 // Reads the books of the input, a line each: the number and the place expected, and the bytes in hexadecimal (`-` for none).
 // Prints what reading each book answers, and whether that is what its line expects.
-use digits::{Number, decimal};
-use hexadecimal::{Bytes, LONGEST, read_bytes};
-use words::{find, first, part, rest};
+
+use digits::decimal;
+use hexadecimal::{LONGEST, read_bytes};
+use std::fmt;
+use std::fmt::Write;
+use verdicts::{Verdict, verdict_of};
+use words::{first, part, rest};
 
 // The bytes that are kept of the input.
 const INPUT: usize = 524288;
 
-fn print_pair(number: u32, place: u32) {
-    io::print_decimal(1, number as u64);
-    io::write_all(1, b" ");
-    io::print_decimal(1, place as u64);
+// The standard output. The crate `io` writes to it, and not std's `Print`, which would assume a call of C more (`rattle_errno`).
+// `scripts` has a `tell` and a `Told` too, but stands on games, of which this program needs none.
+#[derive(Clone, Copy)]
+struct Output;
+
+impl fmt::Write for Output {
+    fn write_str(&mut self, text: &str) -> fmt::Result {
+        io::write_all(1, text.as_bytes());
+        Ok(())
+    }
 }
 
-// Prints a book's verdict beside the one that is expected, and answers whether they are the same.
-fn compare(verdict: verdicts::Verdict, number: u32, place: u32) -> bool {
-    print_pair(verdict.number, verdict.place);
-    if verdict.number == number {
-        if verdict.place == place {
-            io::write_all(1, b" =\n");
-            return true;
+// Prints a line.
+fn tell<D: fmt::Display + Drop>(line: D) {
+    let _ = Output.writeln(line);
+}
+
+// A number and a place.
+#[derive(Clone, Copy, PartialEq)]
+struct Answer {
+    number: u32,
+    place: u32,
+}
+
+impl From<Verdict> for Answer {
+    fn from(verdict: Verdict) -> Answer {
+        Answer {
+            number: verdict.number,
+            place: verdict.place,
         }
     }
-    io::write_all(1, b" expected ");
-    print_pair(number, place);
-    io::write_all(1, b"\n");
-    false
 }
 
-fn unreadable() -> bool {
-    io::write_all(1, b"not a line of number, place and book\n");
-    false
+impl fmt::Display for Answer {
+    fn fmt<W: fmt::Write>(&self, f: &mut fmt::Formatter<W>) -> fmt::Result {
+        let number = self.number;
+        let place = self.place;
+        write!(f, "{number} {place}")
+    }
 }
 
-// What reading the first `count` bytes answers.
-fn verdict_on(book: &[u8; LONGEST], count: usize) -> verdicts::Verdict {
-    verdicts::verdict_of(reading::read_book(part(book, count)))
+// What reading a book answers, beside what its line expects.
+#[derive(Clone, Copy)]
+struct Compared {
+    found: Answer,
+    expected: Answer,
 }
 
-// The book whose digits are `text`: whether it is answered as expected.
-fn check_book(text: &[u8], number: u32, place: u32) -> bool {
+impl Compared {
+    fn is_same(self) -> bool {
+        self.found == self.expected
+    }
+}
+
+impl fmt::Display for Compared {
+    fn fmt<W: fmt::Write>(&self, f: &mut fmt::Formatter<W>) -> fmt::Result {
+        let found = self.found;
+        let expected = self.expected;
+        if self.is_same() {
+            return write!(f, "{found} =");
+        }
+        write!(f, "{found} expected {expected}")
+    }
+}
+
+// Why a line has no answer.
+#[derive(Clone, Copy)]
+enum Unread {
+    Unreadable,
+    TooLong,
+}
+
+impl fmt::Display for Unread {
+    fn fmt<W: fmt::Write>(&self, f: &mut fmt::Formatter<W>) -> fmt::Result {
+        f.write_str(match self {
+            Unread::Unreadable => "not a line of number, place and book",
+            Unread::TooLong => "book too long",
+        })
+    }
+}
+
+// What reading the book whose digits are `text` answers.
+fn answer_on(text: &[u8]) -> Result<Answer, Unread> {
     if LONGEST * 2 < text.len() {
-        io::write_all(1, b"book too long\n");
-        return false;
+        return Err(Unread::TooLong);
     }
     let mut book = [0u8; LONGEST];
-    let Bytes::Count(count) = read_bytes(text, &mut book) else {
-        return unreadable();
-    };
-    compare(verdict_on(&book, count), number, place)
+    let count = read_bytes(text, &mut book).ok_or(Unread::Unreadable)?;
+    let answer = reading::read_book(part(&book, count));
+    Ok(Answer::from(verdict_of(answer)))
+}
+
+fn compare(line: &[u8]) -> Result<Compared, Unread> {
+    let behind = rest(line);
+    let number = decimal(first(line)).ok_or(Unread::Unreadable)?;
+    let place = decimal(first(behind)).ok_or(Unread::Unreadable)?;
+    let found = answer_on(rest(behind))?;
+    let expected = Answer { number, place };
+    Ok(Compared { found, expected })
 }
 
 // One line: whether its book is answered as the line expects.
 fn check_line(line: &[u8]) -> bool {
-    let behind = rest(line);
-    let Number::Value(number) = decimal(first(line)) else {
-        return unreadable();
-    };
-    let Number::Value(place) = decimal(first(behind)) else {
-        return unreadable();
-    };
-    check_book(rest(behind), number, place)
-}
-
-fn print_counts(books: usize, differ: usize) {
-    io::print_decimal(1, books as u64);
-    io::write_all(1, b" books, ");
-    io::print_decimal(1, differ as u64);
-    io::write_all(1, b" differ\n");
+    match compare(line) {
+        Ok(compared) => {
+            tell(compared);
+            compared.is_same()
+        }
+        Err(unread) => {
+            tell(unread);
+            false
+        }
+    }
 }
 
 fn check_lines(text: &[u8]) {
     let mut books: usize = 0;
     let mut differ: usize = 0;
-    let mut at: usize = 0;
-    while at < text.len() {
-        let end = find(text, at, b'\n');
-        let same = check_line(&text[at..end]);
-        books += 1;
-        at = end + 1;
-        if !same {
-            differ += 1;
+    for line in text.split_inclusive(|c| *c == b'\n') {
+        books = books.saturating_add(1);
+        if !check_line(line.strip_suffix(b"\n").unwrap_or(line)) {
+            differ = differ.saturating_add(1);
         }
     }
-    print_counts(books, differ);
+    tell(format_args!("{books} books, {differ} differ"));
 }
 
 fn run(buffer: &mut [u8; INPUT]) {
     let n = io::read_full(0, buffer);
     if n == INPUT {
-        io::write_all(1, b"input too long\n");
+        tell("input too long");
         return;
     }
     check_lines(part(buffer, n));

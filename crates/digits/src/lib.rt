@@ -1,114 +1,74 @@
 #![tactic(auto)]
 // The digits of a word, and the numbers that words of them stand for.
-ghost use Rattle.std.specs.Prelude.{◌≡◌, ◌≤◌};
-ghost use Rattle.digits.specs.Digits.{digit_of, decimal_of, signed_of, pair_in};
+ghost use Rattle.std.specs.Prelude.{◌≡◌, ◌<◌, IfSome};
+ghost use Rattle.digits.specs.Digits.{digit_of, with_digit, decimal_of, signed_of, pair_in};
 
 use words::{first, rest};
 
-// The largest number of 32 bits, as a number of 64 and of 32, and how far below 0 a signed one goes.
-const LARGEST: u64 = 4294967295;
-
-const HIGHEST: u32 = 4294967295;
-
+// How far below 0 a signed number of 32 bits goes.
 const LOWEST: u32 = 2147483648;
 
-// The value of a hexadecimal digit; 16 for any other byte.
-pub fn digit(c: u8) -> u8
-    ensures { (result ≡ digit_of c) × (result ≤ 16) }
+// The value of a hexadecimal digit; none of any other byte.
+pub fn digit(c: u8) -> Option<u8>
+    ensures value { result ≡ digit_of c }
+    ensures below { IfSome result (λ d. d < 16) }
 {
-    if b'a' <= c {
-        if c <= b'f' {
-            return c - b'a' + 10;
-        }
-        return 16;
+    match c {
+        b'0'..=b'9' => Some(c - b'0'),
+        b'a'..=b'f' => Some(c - b'a' + 10),
+        _ => None,
     }
-    if b'0' <= c {
-        if c <= b'9' {
-            return c - b'0';
-        }
-    }
-    16
 }
 
-// What a word says where a number of 32 bits is expected.
-#[derive(Clone, Copy)]
-pub enum Number {
-    Value(u32),
-    Wrong,
+// A value with one decimal digit more, where the byte is such a digit and the number still has at most 32 bits.
+fn with_digit(value: u32, c: u8) -> Option<u32>
+    ensures { result ≡ with_digit value (digit_of c) }
+{
+    let d = digit(c)?;
+    if 9 < d {
+        return None;
+    }
+    u32::try_from(u64::from(value) * 10 + u64::from(d)).ok()
 }
 
-pub fn decimal(word: &[u8]) -> Number
+// The number of 32 bits that a word of decimal digits stands for.
+pub fn decimal(word: &[u8]) -> Option<u32>
     ensures { result ≡ decimal_of word.now }
 {
-    if word.len() == 0 {
-        return Number::Wrong;
+    if word.is_empty() {
+        return None;
     }
-    let mut value: u64 = 0;
-    let mut at: usize = 0;
-    while at < word.len() {
-        let d = digit(word[at]);
-        if 9 < d {
-            return Number::Wrong;
-        }
-        value = value * 10 + (d as u64);
-        if LARGEST < value {
-            return Number::Wrong;
-        }
-        at += 1;
+    let mut value = 0;
+    for &c in word {
+        value = with_digit(value, c)?;
     }
-    Number::Value(value as u32)
+    Some(value)
 }
 
 // A signed number, as its two's complement.
-fn signed(word: &[u8]) -> Number
+#[tactic(auto, unfolding(crate::specs::Digits::signed_of))]
+fn signed(word: &[u8]) -> Option<u32>
     ensures { result ≡ signed_of word.now }
 {
-    if word.len() == 0 {
-        return Number::Wrong;
+    if let [b'-', digits @ ..] = word {
+        let below = decimal(digits)?;
+        (below <= LOWEST).then_some(below.wrapping_neg())
+    } else {
+        decimal(word).filter(|value| *value < LOWEST)
     }
-    if word[0] == b'-' {
-        let Number::Value(below) = decimal(&word[1..]) else {
-            return Number::Wrong;
-        };
-        if LOWEST < below {
-            return Number::Wrong;
-        }
-        if below == 0 {
-            return Number::Value(0);
-        }
-        return Number::Value(HIGHEST - below + 1);
-    }
-    let Number::Value(value) = decimal(word) else {
-        return Number::Wrong;
-    };
-    if value < LOWEST {
-        return Number::Value(value);
-    }
-    Number::Wrong
 }
 
-// Two numbers with a space between them.
-#[derive(Clone, Copy)]
-pub enum Pair {
-    Values(u32, u32),
-    Wrong,
-}
-
-// The second number may be negative, where that is allowed.
-pub fn read_pair(text: &[u8], negative: bool) -> Pair
+// Two numbers with a space between them; the second may be negative, where that is allowed.
+#[tactic(auto, unfolding(crate::specs::Digits::pair_in))]
+pub fn read_pair(text: &[u8], negative: bool) -> Option<(u32, u32)>
     ensures { result ≡ pair_in text.now negative }
 {
-    let Number::Value(one) = decimal(first(text)) else {
-        return Pair::Wrong;
-    };
+    let one = decimal(first(text))?;
     let last = rest(text);
-    let other = if negative {
-        signed(last)
+    let two = if negative {
+        signed(last)?
     } else {
-        decimal(last)
+        decimal(last)?
     };
-    let Number::Value(two) = other else {
-        return Pair::Wrong;
-    };
-    Pair::Values(one, two)
+    Some((one, two))
 }

@@ -1,8 +1,8 @@
 -- The directory of a book, and the steps of a routine: document 01, "The book", and refusal 4.
-use Rattle.std.specs.Prelude.{ℕ, ◌+◌, ◌*◌, ◌<◌, ◌≡◌, List, leb, eqb, length, drop, take, if◌then◌else◌}
+use Rattle.std.specs.Prelude.{ℕ, ◌+◌, ◌*◌, ◌<◌, ◌≡◌, List, leb, eqb, length, drop, take, if◌then◌else◌, Option}
 use Rattle.numbers.specs.Counting.{sum_below}
 use Rattle.numbers.specs.Numbers.{half_at}
-use Rattle.kinds.specs.declared.Step.{Step}
+use Rattle.kinds.specs.declared.Kind.{Kind}
 use Rattle.kinds.specs.Steps.{step_bytes, step_at}
 use Rattle.verdicts.specs.declared.Verdict.{Verdict}
 use Rattle.verdicts.specs.Verdicts.{refused, ◌or_else◌, unless, first_refusal}
@@ -45,7 +45,7 @@ abbrev pub routine_steps : List ℕ → ℕ → List ℕ
 routine_steps s r = take (step_bytes * step_count s r) (routine_part s r)
 
 -- "Places are counted from the routine's own first step.": the step of routine r at place p
-abbrev pub routine_step : List ℕ → ℕ → ℕ → Step
+abbrev pub routine_step : List ℕ → ℕ → ℕ → Option Kind
 routine_step s r p = step_at (counts_of s) (routine_steps s r) p
 
 -- the byte of the book where its steps begin; 0 for a routine that begins past the book's end, of which no step is there

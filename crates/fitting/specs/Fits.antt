@@ -1,7 +1,7 @@
 -- "A game fits a book if": document 01's paragraph, clause by clause, and last the lengths of the arrays that the types fix.
-use Rattle.std.specs.Prelude.{ℕ, ◌<◌, ◌≤◌, ◌≡◌, true, false, List, ◌⊎◌, pos}
+use Rattle.std.specs.Prelude.{ℕ, ◌<◌, ◌≤◌, ◌≡◌, true, false, List, ◌⊎◌, pos, Option}
+use Rattle.kinds.specs.declared.Kind.{Kind}
 use Rattle.numbers.specs.Numbers.{CounterInRange}
-use Rattle.kinds.specs.declared.Step.{Step}
 use Rattle.forms.specs.Timed.{MayBeLeft}
 use Rattle.verdicts.specs.Verdicts.{accepted}
 use Rattle.layout.specs.Layout.{most_routines, most_signals, most_counters, routines_of, signals_of, counters_of, counts_of}
@@ -21,7 +21,7 @@ abbrev pub BothLists : Game → (Line → Type 0) → Type 0
 BothLists g P = P g.listed × P g.starting
 
 -- the step at the place of routine r
-abbrev pub step_here : List ℕ → Game → ℕ → Step
+abbrev pub step_here : List ℕ → Game → ℕ → Option Kind
 step_here s g r = routine_step s r (routine_at g r).place
 
 pub record Fits (s : List ℕ) (g : Game) : Type 0 where

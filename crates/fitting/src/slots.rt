@@ -8,42 +8,31 @@ ghost use Rattle.fitting.specs.Routines.{is_blank, stage_fits, start_fits, left_
 
 use directory::{routine_steps, step_count};
 use forms::timed_count;
-use game::{CONTINUING, ENDED, NOT_STARTED, RESTED, Routine, STOPPED};
+use game::{CONTINUING, ENDED, NOT_STARTED, RESTED, Routine, STOPPED, blank_routine};
 use kinds::{Limits, step_within};
 
-// Whether a routine is suspended, begun or in one of the sets to stop, suspend and resume.
-fn is_flagged(x: Routine) -> bool
-    ensures { result ≡ (x.suspended || x.begun || x.stopping || x.suspending || x.resuming) }
-{
-    if x.suspended {
-        return true;
-    }
-    if x.begun {
-        return true;
-    }
-    if x.stopping {
-        return true;
-    }
-    if x.suspending {
-        return true;
-    }
-    x.resuming
+// A book, with the limits of its steps' fields.
+#[derive(Clone, Copy)]
+pub struct Limited<'a> {
+    pub book: &'a [u8],
+    pub limits: &'a Limits,
+    ghost limits_value: { limits.now ≡ limits_of (counts_of book.now) },
+}
+
+// A routine of a game, with its number, and whether it is in the playing order and in the list of those to start.
+#[derive(Clone, Copy)]
+pub struct Slot {
+    pub routine: usize,
+    pub x: Routine,
+    pub listed: bool,
+    pub starting: bool,
 }
 
 // Whether the fields of a routine are all 0.
 fn is_blank(x: Routine) -> bool
     ensures { result ≡ is_blank x }
 {
-    if x.stage != NOT_STARTED {
-        return false;
-    }
-    if x.place != 0 {
-        return false;
-    }
-    if x.left != 0 {
-        return false;
-    }
-    !is_flagged(x)
+    x == blank_routine()
 }
 
 // Whether a stage goes with being listed, or not.
@@ -64,60 +53,47 @@ fn stage_fits(stage: u8, listed: bool) -> bool
 fn start_fits(stage: u8, starting: bool) -> bool
     ensures { result ≡ start_fits stage starting }
 {
-    if starting { stage == NOT_STARTED } else { true }
+    !starting || stage == NOT_STARTED
 }
 
-// Whether begun and the count left of a routine go with the step at its place.
-fn left_fits(book: &[u8], limits: &Limits, routine: usize, x: Routine) -> bool
-    requires { limits.now ≡ limits_of (counts_of book.now) }
-    ensures { result ≡ left_fits x.begun x.left (timed_count (routine_step book.now routine x.place)) }
-{
-    if x.begun {
-        let place = x.place as usize;
-        let step = step_within(routine_steps(book, routine), limits, place);
-        (x.left as usize) < timed_count(step)
-    } else {
-        x.left == 0
+impl Limited<'_> {
+    // Whether begun and the count left of a routine go with the step at its place.
+    #[tactic(auto, using(kinds::proofs::Limits::step_within_lem))]
+    fn left_fits(self, slot: Slot) -> bool
+        ensures { result ≡ left_fits slot.x.begun slot.x.left (timed_count (routine_step self.entry.book.now slot.routine slot.x.place)) }
+    {
+        let x = slot.x;
+        if x.begun {
+            let steps = routine_steps(self.book, slot.routine);
+            let step = step_within(steps, self.limits, usize::from(x.place));
+            // usize has no From<u32>.
+            (x.left as usize) < timed_count(step)
+        } else {
+            x.left == 0
+        }
     }
-}
 
-// Whether a routine of the book fits, given whether it is listed and whether it is to start.
-fn routine_fits(
-    book: &[u8],
-    limits: &Limits,
-    routine: usize,
-    x: Routine,
-    listed: bool,
-    starting: bool,
-) -> bool
-    requires { limits.now ≡ limits_of (counts_of book.now) }
-    ensures { result ≡ routine_fits book.now routine x listed starting }
-{
-    if step_count(book, routine) < x.place as usize {
-        return false;
+    // Whether a routine of the book fits.
+    #[tactic(auto, unfolding(crate::specs::Routines::routine_fits))]
+    fn routine_fits(self, slot: Slot) -> bool
+        ensures { result ≡ routine_fits self.entry.book.now slot.routine slot.x slot.listed slot.starting }
+    {
+        usize::from(slot.x.place) <= step_count(self.book, slot.routine)
+            && stage_fits(slot.x.stage, slot.listed)
+            && start_fits(slot.x.stage, slot.starting)
+            && self.left_fits(slot)
     }
-    stage_fits(x.stage, listed)
-        && start_fits(x.stage, starting)
-        && left_fits(book, limits, routine, x)
-}
 
-// A slot of the routines: one of so many routines of the book, or beyond them, where nothing is kept.
-pub fn slot_fits(
-    book: &[u8],
-    limits: &Limits,
-    routines: usize,
-    routine: usize,
-    x: Routine,
-    listed: bool,
-    starting: bool,
-) -> bool
-    requires { limits.now ≡ limits_of (counts_of book.now) }
-    ensures { result ≡
-        (if ltb routine routines then routine_fits book.now routine x listed starting else is_blank x) }
-{
-    if routine < routines {
-        routine_fits(book, limits, routine, x, listed, starting)
-    } else {
-        is_blank(x)
+    // Whether a slot fits: one of so many routines of the book, or beyond them, where nothing is kept.
+    pub fn slot_fits(self, slot: Slot, routines: usize) -> bool
+        ensures { result ≡ (if ltb slot.routine routines
+            then routine_fits self.entry.book.now slot.routine slot.x slot.listed slot.starting
+            else is_blank slot.x) }
+    {
+        if slot.routine < routines {
+            self.routine_fits(slot)
+        } else {
+            is_blank(slot.x)
+        }
     }
 }

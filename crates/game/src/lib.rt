@@ -8,7 +8,8 @@ use layout::{MOST_COUNTERS, MOST_ROUTINES, MOST_SIGNALS};
 use lines::{Line, MOST_ENTRIES, is_in, push};
 use verdicts::Verdict;
 
-// The stages of a routine.
+// The stages of a routine. Numbers and no enum: a game that is lent by value (`zulqenat_fits` of fit_c) may have any number there, and
+// what fits a book is said of all of them (`Fits`).
 pub const NOT_STARTED: u8 = 0;
 
 pub const CONTINUING: u8 = 1;
@@ -23,7 +24,7 @@ pub const STOPPED: u8 = 4;
 // place (0 to its step count), begun or not, and the count left". The last three flags say whether it is in the sets to stop, suspend and
 // resume.
 #[repr(C)]
-#[derive(Clone, Copy)]
+#[derive(Clone, Copy, PartialEq, Eq, Default)]
 pub struct Routine {
     pub stage: u8,
     // "Places are counted from the routine's own first step." It is the step that the routine goes on with; "An ended routine's place is
@@ -52,7 +53,8 @@ pub struct Game {
     pub broadcast: [bool; MOST_SIGNALS],
 }
 
-// What set-up, an order and reading a stored game answer: the verdict, and the game, which is as lent after a refusal.
+// What set-up, an order and reading a stored game answer: the verdict, and the game, which is as lent after a refusal. No Result, since C
+// calls return it (`zulqenat_set_up`, `zulqenat_order`, `zulqenat_load`) and promise the lent game with the refusal.
 #[repr(C)]
 #[derive(Clone, Copy)]
 pub struct Outcome {
@@ -60,37 +62,24 @@ pub struct Outcome {
     pub game: Game,
 }
 
-// A routine whose fields are all 0.
+// A routine whose fields are all 0: its default. The function stays, since it is public and promises `blank`.
 pub fn blank_routine() -> Routine
     ensures { result ≡ blank }
 {
-    Routine {
-        stage: NOT_STARTED,
-        place: 0,
-        left: 0,
-        suspended: false,
-        begun: false,
-        stopping: false,
-        suspending: false,
-        resuming: false,
-    }
+    Routine::default()
 }
 
-// A game whose fields are all 0: what set-up begins from, and a game to be lent to it.
+// A game whose fields are all 0: what set-up begins from, and a game to be lent to it. Not derived: an array of more than 32 has no
+// Default.
+#[tactic(auto, unfolding(crate::specs::Game::blank_game))]
 pub fn blank_game() -> Game
     ensures { result ≡ blank_game }
 {
-    let counts = Counts {
-        routines: 0,
-        signals: 0,
-        counters: 0,
-    };
-    let blank = blank_routine();
     let items = [0; MOST_ENTRIES];
     let line = Line { items, len: 0 };
     Game {
-        counts,
-        routines: [blank; MOST_ROUTINES],
+        counts: Counts::default(),
+        routines: [blank_routine(); MOST_ROUTINES],
         counters: [0; MOST_COUNTERS],
         listed: line,
         starting: line,
@@ -98,42 +87,44 @@ pub fn blank_game() -> Game
     }
 }
 
-// A routine joins the set to stop.
+// A routine joins the set to stop. This and the next two differ in a field alone, which no parameter of a generic function can stand for.
 pub fn with_stop(routine: Routine) -> Routine
     ensures { result ≡ with_stop routine }
 {
-    let mut next = routine;
-    next.stopping = true;
-    next
+    Routine {
+        stopping: true,
+        ..routine
+    }
 }
 
 // A routine joins the set to suspend.
 pub fn with_suspend(routine: Routine) -> Routine
     ensures { result ≡ with_suspend routine }
 {
-    let mut next = routine;
-    next.suspending = true;
-    next
+    Routine {
+        suspending: true,
+        ..routine
+    }
 }
 
 // A routine joins the set to resume.
 pub fn with_resume(routine: Routine) -> Routine
     ensures { result ≡ with_resume routine }
 {
-    let mut next = routine;
-    next.resuming = true;
-    next
+    Routine {
+        resuming: true,
+        ..routine
+    }
 }
 
 // Those to start, after a start of a routine, which is in this stage: one that is not in stage 0, or is already to start, adds nothing.
+#[tactic(auto, unfolding(crate::specs::Game::with_start))]
 pub fn with_start(line: Line, routine: u8, stage: u8) -> Line
     ensures { result ≡ with_start line routine stage }
 {
-    if stage != NOT_STARTED {
-        return line;
+    if stage == NOT_STARTED && !is_in(line, routine) {
+        push(line, routine)
+    } else {
+        line
     }
-    if is_in(line, routine) {
-        return line;
-    }
-    push(line, routine)
 }

@@ -2,129 +2,147 @@
 use crate::buffers::UNTOUCHED;
 use crate::stores::LONGEST_BUFFER;
 use game::Game;
-use scripts::{Poked, lent, print_numbers, print_verdict, print_wrong};
-use stored_games::WRONG_FORM;
-use verdicts::UNFIT;
-use words::{is, part};
+use scripts::{NotCommand, Numbers, State, Told, tell};
+use verdicts::{Refusal, Verdict};
+use words::part;
 
-// The ways in which changed bytes are answered, by their places in the line that is printed, behind how many were tried: refused with 13,
-// refused with 9, accepted as the game that is stored as these bytes, and anything else.
-const TRIED: usize = 0;
+// The ways in which changed bytes are answered: refused with 13, refused with 9, accepted as the game that is stored as these bytes, and
+// anything else.
+#[derive(Clone, Copy)]
+enum Way {
+    Form,
+    Fit,
+    Same,
+    Other,
+}
 
-const FORM: usize = 1;
+// How many changes were tried, and how many of them were answered in each way.
+#[derive(Clone, Copy, Default)]
+struct Tally {
+    tried: usize,
+    form: usize,
+    fit: usize,
+    same: usize,
+    other: usize,
+}
 
-const FIT: usize = 2;
+impl Tally {
+    fn count(&mut self, way: Way) {
+        self.tried = self.tried.saturating_add(1);
+        match way {
+            Way::Form => self.form = self.form.saturating_add(1),
+            Way::Fit => self.fit = self.fit.saturating_add(1),
+            Way::Same => self.same = self.same.saturating_add(1),
+            Way::Other => self.other = self.other.saturating_add(1),
+        }
+    }
 
-const SAME: usize = 3;
+    fn print(self) {
+        let numbers = [self.tried, self.form, self.fit, self.same, self.other];
+        tell(format_args!("changes{}", Numbers(&numbers)));
+    }
+}
 
-const OTHER: usize = 4;
+// The bytes that a game is stored as, at the front of a buffer: an array and its length, since there is no heap.
+#[derive(Clone, Copy)]
+struct StoredBytes {
+    buffer: [u8; LONGEST_BUFFER],
+    length: usize,
+}
 
-const WAYS: usize = 5;
+impl StoredBytes {
+    // Those of a game, or why it is refused.
+    fn of(book: &[u8], game: Game) -> Result<StoredBytes, Verdict> {
+        let mut buffer = [UNTOUCHED; LONGEST_BUFFER];
+        let stored = storing::store(book, game, &mut buffer);
+        // By its number: `store` answers C's Stored, which is no Result.
+        if stored.verdict.number != 0 {
+            return Err(stored.verdict);
+        }
+        let length = stored.length;
+        Ok(StoredBytes { buffer, length })
+    }
 
-// How many values a byte has, and how many changes there are at most.
-const BYTE_LIMIT: usize = 256;
+    fn bytes(&self) -> &[u8] {
+        part(&self.buffer, self.length)
+    }
 
-const MOST_CHANGES: usize = LONGEST_BUFFER * BYTE_LIMIT;
-
-fn count(tally: &mut [usize; WAYS], way: usize) {
-    if way < WAYS {
-        if tally[way] < MOST_CHANGES {
-            tally[way] += 1;
+    fn put(&mut self, at: usize, value: u8) {
+        if at < LONGEST_BUFFER {
+            self.buffer[at] = value;
         }
     }
 }
 
-// This way where the game is stored as these bytes, and another where it is not.
-fn if_stored_as(book: &[u8], game: Game, bytes: &[u8], way: usize) -> usize {
-    let mut out = [UNTOUCHED; LONGEST_BUFFER];
-    let stored = storing::store(book, game, &mut out);
-    if stored.verdict.number != 0 {
-        return OTHER;
-    }
-    if is(part(&out, stored.length), bytes) {
-        return way;
-    }
-    OTHER
-}
-
-// How changed bytes are answered. A refusal has to leave the lent game, which is stored as the bytes that were kept.
-fn way_of(book: &[u8], game: Game, kept: &[u8], bytes: &[u8]) -> usize {
-    let outcome = loading::load(book, bytes, game);
-    let verdict = outcome.verdict;
-    let next = outcome.game;
-    if verdict.place != 0 {
-        return OTHER;
-    }
-    let number = verdict.number;
-    match number {
-        0 => if_stored_as(book, next, bytes, SAME),
-        UNFIT => if_stored_as(book, next, kept, FIT),
-        WRONG_FORM => if_stored_as(book, next, kept, FORM),
-        _ => OTHER,
-    }
-}
-
-fn set_byte(bytes: &mut [u8; LONGEST_BUFFER], at: usize, value: u8) {
-    if at < LONGEST_BUFFER {
-        bytes[at] = value;
-    }
-}
-
-// Tries the other values of a byte in the buffer that the bytes are at the front of.
-fn change_byte(
-    book: &[u8],
+// A game, the book that it belongs to, and what it is stored as.
+#[derive(Clone, Copy)]
+struct Kept<'a> {
+    book: &'a [u8],
     game: Game,
-    kept: &[u8],
-    buffer: &mut [u8; LONGEST_BUFFER],
-    at: usize,
-    tally: &mut [usize; WAYS],
-) {
-    if kept.len() <= at {
-        return;
-    }
-    let old = kept[at];
-    let mut left = BYTE_LIMIT;
-    while 0 < left {
-        left -= 1;
-        let value = (left % BYTE_LIMIT) as u8;
-        if value != old {
-            set_byte(buffer, at, value);
-            count(tally, TRIED);
-            count(tally, way_of(book, game, kept, part(buffer, kept.len())));
+    stored: StoredBytes,
+}
+
+impl Kept<'_> {
+    // Whether a game is stored as these bytes.
+    fn is_stored_as(&self, game: Game, bytes: &[u8]) -> bool {
+        match StoredBytes::of(self.book, game) {
+            Ok(stored) => stored.bytes() == bytes,
+            Err(_) => false,
         }
     }
-    set_byte(buffer, at, old);
-}
 
-fn print_tally(tally: &[usize; WAYS]) {
-    print_numbers(b"changes", tally);
-}
-
-// Tries every change of the bytes that a game is stored as, which are lent twice, the second time to be changed.
-fn change_all(book: &[u8], game: Game, kept: &[u8], buffer: &mut [u8; LONGEST_BUFFER]) {
-    let mut tally = [0usize; WAYS];
-    let mut at: usize = 0;
-    while at < kept.len() {
-        change_byte(book, game, kept, buffer, at, &mut tally);
-        at += 1;
+    // How changed bytes are answered. A refusal has to leave the lent game, which is stored as the bytes that were kept.
+    fn way_of(&self, changed: &[u8]) -> Way {
+        let outcome = loading::load(self.book, changed, self.game);
+        let kept = self.stored.bytes();
+        let told = outcome.verdict;
+        let (way, bytes) = if told == Verdict::default() {
+            (Way::Same, changed)
+        } else if told == Verdict::from(Refusal::Unfit) {
+            (Way::Fit, kept)
+        } else if told == Verdict::from(Refusal::WrongForm) {
+            (Way::Form, kept)
+        } else {
+            return Way::Other;
+        };
+        if self.is_stored_as(outcome.game, bytes) {
+            way
+        } else {
+            Way::Other
+        }
     }
-    print_tally(&tally);
+
+    // Tries the other values of a byte.
+    fn change_byte(&self, at: usize, old: u8, tally: &mut Tally) {
+        let mut changed = self.stored;
+        for value in 0..=u8::MAX {
+            if value != old {
+                changed.put(at, value);
+                tally.count(self.way_of(changed.bytes()));
+            }
+        }
+    }
+
+    // Tries every change of a byte.
+    fn change_all(&self) -> Tally {
+        let mut tally = Tally::default();
+        for (at, old) in self.stored.bytes().iter().enumerate() {
+            self.change_byte(at, *old, &mut tally);
+        }
+        tally
+    }
 }
 
 // Stores the game, and tries every change of a byte. No text belongs to the command.
-pub fn changes(text: &[u8], book: &[u8], poked: Poked) {
-    if text.len() != 0 {
-        print_wrong();
-        return;
+pub fn changes(text: &[u8], state: &State) -> Result<(), NotCommand> {
+    if !text.is_empty() {
+        return Err(NotCommand);
     }
-    let game = lent(poked);
-    let mut kept = [UNTOUCHED; LONGEST_BUFFER];
-    let mut buffer = [UNTOUCHED; LONGEST_BUFFER];
-    let stored = storing::store(book, game, &mut kept);
-    storing::store(book, game, &mut buffer);
-    if stored.verdict.number != 0 {
-        print_verdict(b"changes", stored.verdict);
-        return;
+    let book = state.book();
+    let game = state.poked.lent();
+    match StoredBytes::of(book, game) {
+        Ok(stored) => Kept { book, game, stored }.change_all().print(),
+        Err(verdict) => tell(format_args!("changes {}", Told(verdict))),
     }
-    change_all(book, game, part(&kept, stored.length), &mut buffer);
+    Ok(())
 }

@@ -10,11 +10,9 @@ mod stores;
 ghost use Rattle.std.specs.Prelude.{◌≤◌, length};
 
 use game::blank_game;
-use hexadecimal::LONGEST;
 use pieces::{keep_from, whole_lines};
-use rounds::round;
-use scripts::{Poked, command, take_book, unpoked};
-use words::{find, first, is, part, place_in, rest};
+use scripts::{State, tell};
+use words::{first, rest};
 
 // The bytes of a piece. A line that has more, its end included, is no command.
 const PIECE: usize = 65536;
@@ -25,46 +23,32 @@ const MOST_PIECES: usize = 4294967296;
 // A byte that begins no command.
 const NO_COMMAND: u8 = b'?';
 
-// How many bytes the current book has, and the current game.
-#[derive(Clone, Copy)]
-struct State {
-    count: usize,
-    poked: Poked,
-}
-
-// The game after a line that sets no book.
-fn run_line(line: &[u8], book: &[u8], poked: Poked) -> Poked {
+// Carries a command out.
+fn run_line(line: &[u8], state: &mut State) {
     let text = rest(line);
-    match place_in(b"round unstarted store load changes", first(line)) {
-        0 => return round(text, book, poked),
-        1 => starts::unstarted(text, book),
-        2 => stores::store(text, book, poked),
-        3 => return stores::load(text, book, poked),
-        4 => changes::changes(text, book, poked),
-        _ => return command(line, book, poked),
+    let done = match first(line) {
+        b"book" => return state.take_book(text),
+        b"round" => rounds::round(text, state),
+        b"unstarted" => starts::unstarted(text, state.book()),
+        b"store" => stores::store(text, state),
+        b"load" => stores::load(text, state),
+        b"changes" => changes::changes(text, state),
+        _ => return state.command(line),
+    };
+    if let Err(wrong) = done {
+        tell(wrong);
     }
-    poked
 }
 
 // Runs the lines of a text; the last one may lack its end.
-fn run_lines(script: &[u8], book: &mut [u8; LONGEST], state: State) -> State {
-    let mut count = state.count;
-    let mut poked = state.poked;
-    let mut at: usize = 0;
-    while at < script.len() {
-        let end = find(script, at, b'\n');
-        let line = &script[at..end];
-        if is(first(line), b"book") {
-            count = take_book(rest(line), book, count);
-        } else {
-            poked = run_line(line, part(book, count), poked);
-        }
-        at = end + 1;
+fn run_lines(script: &[u8], state: &mut State) {
+    for line in script.split_inclusive(|c| *c == b'\n') {
+        run_line(line.strip_suffix(b"\n").unwrap_or(line), state);
     }
-    State { count, poked }
 }
 
 // Reads on behind the bytes that are kept, and answers how many the piece has then: no more than are kept where the input has ended.
+// The piece and how many of its bytes are kept stand apart, here and below, since there is no heap.
 fn read_piece(piece: &mut [u8], kept: usize) -> usize
     requires { kept ≤ length piece.old }
     ensures { (kept ≤ result) × (result ≤ length piece.old) }
@@ -78,40 +62,36 @@ fn keep_rest(piece: &mut [u8], whole: usize, end: usize) -> usize
     requires { end ≤ length piece.old }
     ensures { result ≤ length piece.old }
 {
-    let kept = keep_from(&mut piece[0..end], whole);
+    let kept = keep_from(&mut piece[..end], whole);
     if kept < piece.len() {
         return kept;
     }
-    if piece.len() == 0 {
-        return 0;
+    match piece.first_mut() {
+        Some(first) => {
+            *first = NO_COMMAND;
+            1
+        }
+        None => 0,
     }
-    piece[0] = NO_COMMAND;
-    1
 }
 
-fn run(piece: &mut [u8], book: &mut [u8; LONGEST]) {
-    let mut state = State {
-        count: 0,
-        poked: unpoked(blank_game()),
-    };
+fn run(piece: &mut [u8], state: &mut State) {
     let mut kept: usize = 0;
-    let mut left = MOST_PIECES;
-    while 0 < left {
+    for _ in 0..MOST_PIECES {
         let end = read_piece(piece, kept);
         if end == kept {
-            run_lines(&piece[0..kept], book, state);
+            run_lines(&piece[..kept], state);
             return;
         }
-        let whole = whole_lines(&piece[0..end]);
-        state = run_lines(&piece[0..whole], book, state);
+        let whole = whole_lines(&piece[..end]);
+        run_lines(&piece[..whole], state);
         kept = keep_rest(piece, whole, end);
-        left -= 1;
     }
-    io::write_all(1, b"input too long\n");
+    tell("input too long");
 }
 
 fn main() {
     let mut piece = [0u8; PIECE];
-    let mut book = [0u8; LONGEST];
-    run(&mut piece, &mut book);
+    let mut state = State::new(blank_game());
+    run(&mut piece, &mut state);
 }

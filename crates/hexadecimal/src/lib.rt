@@ -1,6 +1,8 @@
 #![tactic(auto)]
 // The bytes that words of hexadecimal digits stand for.
-ghost use Rattle.std.specs.Prelude.{◌≡◌, ◌/◌, ◌≤◌, length};
+ghost use Rattle.std.specs.Prelude.{◌≡◌, ◌/◌, ◌≤◌, length, is_some};
+ghost use Rattle.std.specs.List.{list_all};
+ghost use Rattle.digits.specs.Digits.{digit_of};
 ghost use Rattle.hexadecimal.specs.Hex.{longest, is_hex, written_from, bytes_in, written_in};
 
 use digits::digit;
@@ -9,63 +11,46 @@ use words::is;
 // The most bytes that a word may stand for.
 pub const LONGEST: usize = 16384;
 
-// What a word says where bytes are expected: how many they are.
-#[derive(Clone, Copy)]
-pub enum Bytes {
-    Count(usize),
-    Wrong,
+// Whether each byte of a word is a hexadecimal digit.
+fn has_digits_only(word: &[u8]) -> bool
+    ensures { result ≡ list_all (λ c. is_some (digit_of c)) word.now }
+{
+    word.iter().all(|c| digit(*c).is_some())
 }
 
 // Whether a word stands for bytes, two hexadecimal digits each.
+#[tactic(auto, unfolding(crate::specs::Hex::is_hex))]
 fn is_hex(word: &[u8]) -> bool
     ensures { result ≡ is_hex word.now }
 {
-    if word.len() == 0 {
-        return false;
-    }
-    if word.len() % 2 != 0 {
-        return false;
-    }
-    if LONGEST < word.len() / 2 {
-        return false;
-    }
-    let mut at: usize = 0;
-    while at < word.len() {
-        if 15 < digit(word[at]) {
-            return false;
-        }
-        at += 1;
-    }
-    true
+    !word.is_empty() && word.len() % 2 == 0 && word.len() / 2 <= LONGEST && has_digits_only(word)
 }
 
-// Puts so many bytes whose digits are `word` into `bytes`.
-fn fill(word: &[u8], all: usize, bytes: &mut [u8; LONGEST])
-    requires { (all ≤ longest) × (all ≤ length word.now / 2) }
-    ensures { bytes.new ≡ written_from word.now all bytes.old 0 }
+// Puts the bytes whose digits are a word into `bytes`, two digits each.
+fn fill(word: &[u8], bytes: &mut [u8; LONGEST])
+    requires { length word.now / 2 ≤ longest }
+    ensures { bytes.new ≡ written_from word.now (length word.now / 2) bytes.old 0 }
 {
-    let mut count: usize = 0;
-    while count < all {
-        let at = count * 2;
-        let high = digit(word[at]) % 16;
-        let low = digit(word[at + 1]) % 16;
-        bytes[count] = high * 16 + low;
-        count += 1;
+    let (pairs, _) = word.as_chunks::<2>();
+    for (count, [high, low]) in pairs.iter().enumerate() {
+        bytes[count] = digit(*high).unwrap_or(0) * 16 + digit(*low).unwrap_or(0);
     }
 }
 
-// The bytes whose digits are a word, two each, or `-` for none: they are put into `bytes`, which any other word leaves as lent.
-pub fn read_bytes(word: &[u8], bytes: &mut [u8; LONGEST]) -> Bytes
+// How many bytes a word of their digits stands for, two each, or `-` for none; none for any other word. They are put into `bytes`, which
+// any other word leaves as lent.
+#[tactic(auto, unfolding(crate::specs::Hex::bytes_in, crate::specs::Hex::written_in))]
+pub fn read_bytes(word: &[u8], bytes: &mut [u8; LONGEST]) -> Option<usize>
     ensures count { result ≡ bytes_in word.now }
     ensures written { bytes.new ≡ written_in word.now bytes.old }
 {
     if is(word, b"-") {
-        return Bytes::Count(0);
+        return Some(0);
     }
     if is_hex(word) {
-        let count = word.len() / 2;
-        fill(word, count, bytes);
-        return Bytes::Count(count);
+        fill(word, bytes);
+        Some(word.len() / 2)
+    } else {
+        None
     }
-    Bytes::Wrong
 }

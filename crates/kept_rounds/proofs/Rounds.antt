@@ -1,7 +1,7 @@
 -- What a round of a kept game answers, check by check: the refusal of the first part that refuses, reading the game, the round or storing,
 -- or what they come to together.
 use Prim.Native.Nat.{ℕ, ◌≤◌, ◌<◌}
-use mathlib.Core.Path.{◌≡◌, refl, sym, subst, ◌∙◌}
+use mathlib.Core.Path.{◌≡◌, refl, sym, ap, subst, ◌∙◌}
 use mathlib.Core.List.{List}
 use native.Mathlib.Omega.{arith}
 use borrow.Author.Tests.{ne_eqb}
@@ -10,7 +10,9 @@ use lib.IntN.{ℤ}
 use lib.ListN.{length}
 use Rattle.numbers.specs.Buffers.{with_front}
 use Rattle.numbers.proofs.Tests.{by_test}
-use Rattle.verdicts.specs.Verdicts.{accepted, refused, ◌or_else◌}
+use Rattle.verdicts.specs.declared.Refusal.{Refusal}
+use Rattle.verdicts.proofs.Answers.{refuses}
+use Rattle.verdicts.specs.Verdicts.{accepted, told, refused, ◌or_else◌}
 use Rattle.book.specs.Accepted.{Accepted}
 use Rattle.game.specs.declared.Game.{Game}
 use Rattle.game.specs.Game.{blank_game}
@@ -18,7 +20,7 @@ use Rattle.fitting.specs.Fits.{Fits}
 use Rattle.stored_games.specs.Forms.{form1}
 use Rattle.stored_games.specs.Stored.{stored}
 use Rattle.stored_games.specs.Reading.{game_in}
-use Rattle.stored_games.specs.Calls.{short_buffer, loaded, store_answer, storing}
+use Rattle.stored_games.specs.Calls.{short_buffer, loaded, StoreAnswer, store_answer, storing}
 use Rattle.stored_games.specs.Reasons.{StoreReason}
 use Rattle.stored_games.proofs.Reasons.{store_reason_only}
 use Rattle.stored_games.proofs.Keeping.{Loadable, loads, store_verdict_lem, stores}
@@ -64,8 +66,8 @@ module _ (book buffer : List ℕ) (n : ℕ) (marks : List ℤ) where
       (λ e. omega arith)
 
   -- what is promised of whatever equals the definition's answer
-  pub promised : {p : KeptRound} → p ≡ play_kept book buffer n marks → (p ≡ play_kept book buffer n marks) × (p.lost ≤ most_lost)
-  promised e = (e, subst (λ (q : KeptRound). q.lost ≤ most_lost) (sym e) kept_lost)
+  pub lost_promised : {p : KeptRound} → p ≡ play_kept book buffer n marks → p.lost ≤ most_lost
+  lost_promised e = subst (λ (q : KeptRound). q.lost ≤ most_lost) (sym e) kept_lost
 
 -- a round of a game that fits an accepted book
 module _ {book : List ℕ} {g : Game} (a : Accepted book) (fits : Fits book g) (buffer : List ℕ) (marks : List ℤ) where
@@ -94,3 +96,13 @@ module _ {book : List ℕ} {g : Game} (a : Accepted book) (fits : Fits book g) (
     unfolding played_from
     played_stored h =
         rw (← (plays book g marks a fits space), stores form1 book next buffer (a, round_fits book a g fits, h)) refl
+
+-- a game that fits is stored where there is room for it, and nothing turns it down
+module _ {book : List ℕ} {g : Game} (a : Accepted book) (fits : Fits book g) (before : List ℕ) (room : length (stored form1 g) ≤ length before) where
+  pub stored_here :
+      {s : StoreAnswer} → s ≡ storing form1 book g before →
+      s ≡ store_answer accepted (length (stored form1 g)) (with_front (stored form1 g) before)
+  stored_here e = e ∙ stores form1 book g before (a, fits, room)
+
+  pub never_refused : (r : Refusal) {out : List ℕ} → store_answer (told r) 0 out ≡ storing form1 book g before → ⊥
+  never_refused r e = refuses r (ap (λ (s : StoreAnswer). s.verdict.number) (stored_here e))

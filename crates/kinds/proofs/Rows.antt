@@ -5,10 +5,12 @@ use mathlib.Core.Path.{◌≡◌, subst}
 use mathlib.Core.List.{List, [], ◌∷◌}
 use native.Mathlib.Nat.{add-zero, add-suc, zero-add, suc-add}
 use native.Mathlib.Omega.{arith}
+use native.Mathlib.Decide.{ℕ_discrete}
 use lib.ListN.{get_or, get_or-eq_default}
 use lib.IntN.{ℤ}
+use Rattle.std.specs.Prelude.{Some}
 use Rattle.kinds.specs.declared.Kind.{Kind}
-use Rattle.kinds.specs.declared.Step.TheVariants as step
+use Rattle.kinds.specs.declared.Kind.TheVariants.{End}
 use Rattle.kinds.specs.declared.Counts.{Counts}
 use Rattle.kinds.specs.Steps.{Row, table, unknown, row_of, kind_of, op_at, field_a, field_b, field_n, kind_at, step_at}
 use Rattle.kinds.specs.Limits.{ops}
@@ -16,29 +18,22 @@ use Rattle.kinds.proofs.Readable.{step_below, readable_step, step_readable}
 
 module _ (counts : Counts) (s : List ℕ) (i : ℕ) where
   -- a step that is read has the kind at its place, that of its op's row
-  pub kind_at_lem : {k : Kind} → step_at counts s i ≡ step.Kind k → kind_at s i ≡ k
+  pub kind_at_lem : {k : Kind} → step_at counts s i ≡ Some k → kind_at s i ≡ k
   kind_at_lem e = cc (readable_step counts s i (step_below counts s i e) (step_readable counts s i e))
 
-  pub row_kind : {k : Kind} → step_at counts s i ≡ step.Kind k → kind_of (op_at s i) (field_a s i) (field_b s i) (field_n s i) ≡ k
+  pub row_kind : {k : Kind} → step_at counts s i ≡ Some k → kind_of (op_at s i) (field_a s i) (field_b s i) (field_n s i) ≡ k
   unfolding kind_at
   row_kind e = kind_at_lem e
 
--- a number that is none of the first k is k or more
-abbrev NoneBelow : ℕ → ℕ → Type 0
-NoneBelow n zero = Unit {0}
-NoneBelow n (suc k) = NoneBelow n k × (n ≡ k → ⊥)
-
-from_none : (n k : ℕ) → NoneBelow n k → k ≤ n
-from_none n zero h = omega arith
-from_none n (suc k) h = let l = from_none n k h.0 in omega arith
-
--- an op past the table has no row, and one that is none of the table's lies past it
+-- an op past the table has no row
 pub past_table : (op : ℕ) → ops ≤ op → row_of op ≡ unknown
 unfolding row_of
 past_table op h = get_or-eq_default table unknown h
 
-pub unknown_op : (op : ℕ) → NoneBelow op ops → row_of op ≡ unknown
-unknown_op op h = past_table op (from_none op ops h)
+-- the op of the table's last row, and one past the table
+pub last_kind : (op a b : ℕ) (n : ℤ) → 20 ≤ op → End ≡ kind_of op a b n
+unfolding row_of
+last_kind op a b n h = elim (ℕ_discrete op 20) [ yes e ↦ rw e | no d ↦ rw (past_table op (omega arith)) ]
 
 -- what holds of a row, and what holds of the rows behind it
 infixr 5 ◌and◌
@@ -61,7 +56,7 @@ module _ (P : ℕ → Row → Type 0) where
 
   -- what holds of the table's rows holds of the op and the row of a step that is read
   pub step_holds :
-      (counts : Counts) (s : List ℕ) (i : ℕ) {k : Kind} → Rows 0 table → step_at counts s i ≡ step.Kind k →
+      (counts : Counts) (s : List ℕ) (i : ℕ) {k : Kind} → Rows 0 table → step_at counts s i ≡ Some k →
       P (op_at s i) (row_of (op_at s i))
   unfolding row_of
   step_holds counts s i x e =
@@ -75,7 +70,7 @@ module _ (P : ℕ → Kind → Type 0) where
 
   -- what holds of the table's kinds holds of the op and the kind of a step that is read
   pub kind_holds :
-      (counts : Counts) (s : List ℕ) (i : ℕ) {k : Kind} → Kinds (field_a s i) (field_b s i) (field_n s i) → step_at counts s i ≡ step.Kind k →
+      (counts : Counts) (s : List ℕ) (i : ℕ) {k : Kind} → Kinds (field_a s i) (field_b s i) (field_n s i) → step_at counts s i ≡ Some k →
       P (op_at s i) k
   kind_holds counts s i x e =
       subst (P (op_at s i)) (row_kind counts s i e)

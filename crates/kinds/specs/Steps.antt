@@ -1,11 +1,9 @@
 -- A step's eight bytes, taken apart into one of the 21 kinds, or turned down: document 01's table.
-use Rattle.std.specs.Prelude.{ℕ, ◌+◌, ◌*◌, ◌/◌, ◌<◌, ◌&&◌, List, [], ◌∷◌, ltb, get_or, length, ℤ, pos, ◌≤ℤ◌, if◌then◌else◌}
+use Rattle.std.specs.Prelude.{ℕ, ◌+◌, ◌*◌, ◌/◌, ◌<◌, ◌&&◌, List, [], ◌∷◌, ltb, get_or, length, ℤ, pos, ◌≤ℤ◌, if◌then◌else◌, Option, Some, None}
 use Rattle.numbers.specs.Numbers.{half_of, number_of, lowest, highest, is_within, count_of}
 use Rattle.kinds.specs.declared.Kind.{Kind}
 use Rattle.kinds.specs.declared.Kind.TheVariants.{Mark, Set, Add, Take, Signal, SignalNumber, Rest, RestFor, Wait, WaitFor}
 use Rattle.kinds.specs.declared.Kind.TheVariants.{Join, JoinFor, Read, Start, Stop, Suspend, Resume, If, Else, While, End}
-use Rattle.kinds.specs.declared.Step.{Step}
-use Rattle.kinds.specs.declared.Step.TheVariants as step
 use Rattle.kinds.specs.declared.Fields.{Fields}
 use Rattle.kinds.specs.declared.Counts.{Counts}
 
@@ -98,12 +96,12 @@ pub record Readable (counts : Counts) (op a b : ℕ) (n : ℤ) : Type 0 where
   pub below : n ≤ℤ (row_of op).highest_n
 
 -- "taken apart into one of the 21 kinds, or the step is turned down"
-unfoldable pub decoded : Counts → ℕ → ℕ → ℕ → ℤ → Step
+unfoldable pub decoded : Counts → ℕ → ℕ → ℕ → ℤ → Option Kind
 decoded counts op a b n =
     let r = row_of op in
     if ltb a (r.a_count counts) && ltb b (r.b_count counts) && is_within n r.lowest_n r.highest_n
-    then step.Kind (kind_of op a b n)
-    else step.Refused
+    then Some (kind_of op a b n)
+    else None
 
 -- "Then S steps of 8 bytes"
 abbrev pub step_bytes : ℕ
@@ -135,6 +133,6 @@ unfoldable pub kind_at : List ℕ → ℕ → Kind
 kind_at s i = kind_of (op_at s i) (field_a s i) (field_b s i) (field_n s i)
 
 -- step i of a part of the book; turned down where its bytes are not there
-unfoldable pub step_at : Counts → List ℕ → ℕ → Step
+unfoldable pub step_at : Counts → List ℕ → ℕ → Option Kind
 step_at counts s i =
-    if ltb i (steps_in s) then decoded counts (op_at s i) (field_a s i) (field_b s i) (field_n s i) else step.Refused
+    if ltb i (steps_in s) then decoded counts (op_at s i) (field_a s i) (field_b s i) (field_n s i) else None

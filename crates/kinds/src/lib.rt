@@ -6,7 +6,8 @@ ghost use Rattle.kinds.specs.Limits.{field_limits, number_limits, limits_of, dec
 
 use numbers::{HIGHEST, LOWEST};
 
-// The 21 kinds. Indexes, relations and counts are ready to use: a count of 0 or less is 0.
+// The 21 kinds. Indexes, relations and counts are ready to use: a count of 0 or less is 0. A relation is the number that the step has, for
+// which `numbers::relation` answers without a branch.
 #[derive(Clone, Copy)]
 pub enum Kind {
     Mark(i32),
@@ -35,13 +36,6 @@ pub enum Kind {
 // The bytes of a step.
 pub const STEP_BYTES: usize = 8;
 
-// A step: of some kind, or turned down.
-#[derive(Clone, Copy)]
-pub enum Step {
-    Kind(Kind),
-    Refused,
-}
-
 // A step's fields: op, a, b and n.
 #[derive(Clone, Copy)]
 pub struct Fields {
@@ -53,7 +47,7 @@ pub struct Fields {
 
 // The numbers R, E and C of a book.
 #[repr(C)]
-#[derive(Clone, Copy)]
+#[derive(Clone, Copy, PartialEq, Eq, Default)]
 pub struct Counts {
     pub routines: usize,
     pub signals: usize,
@@ -69,19 +63,21 @@ const RELATIONS: i32 = 3;
 // How many ops there are.
 const OPS: usize = 21;
 
-// Two limits for each op.
+// Two limits for each op. The limits are two arrays of pairs and no rows of four: `limits_of` promises them so, and pairs are read faster
+// (docs/DECISIONS.md).
 type Pairs = [[i32; 2]; OPS];
 
 // What the fields of a step may be in some book: of each op, first how many values a and b have, then the lowest and the highest n.
 pub type Limits = [Pairs; 2];
 
 // How many values a and b have, by op, with so many routines, signals and counters. An unnamed field has one value, 0.
+#[tactic(auto, unfolding(crate::specs::Limits::field_limits))]
 fn field_limits(routines: u16, signals: u16, counters: u16) -> Pairs
     ensures { result ≡ field_limits (record { routines = routines; signals = signals; counters = counters }) }
 {
-    let r = routines as i32;
-    let e = signals as i32;
-    let c = counters as i32;
+    let r = i32::from(routines);
+    let e = i32::from(signals);
+    let c = i32::from(counters);
     let k = RELATIONS;
     [
         [1, 1],
@@ -109,6 +105,7 @@ fn field_limits(routines: u16, signals: u16, counters: u16) -> Pairs
 }
 
 // The lowest and the highest n, by op. An unnamed n is 0.
+#[tactic(auto, unfolding(crate::specs::Limits::number_limits))]
 fn number_limits() -> Pairs
     ensures { result ≡ number_limits }
 {
@@ -140,14 +137,17 @@ fn number_limits() -> Pairs
     ]
 }
 
-// The limits of a book with so many routines, signals and counters.
+// The limits of a book with so many routines, signals and counters: three numbers of 16 bits and no `Counts`,
+// whose numbers may be more than an i32 holds.
 pub fn limits_of(routines: u16, signals: u16, counters: u16) -> Limits
     ensures { result ≡ limits_of (record { routines = routines; signals = signals; counters = counters }) }
 {
     [field_limits(routines, signals, counters), number_limits()]
 }
 
-// The kind of a step whose fields are op, a, b and n, whatever they are.
+// The kind of a step whose fields are op, a, b and n, whatever they are. Four parameters and no `Fields`: there a and b have their
+// bits' types, and the table's rows speak of them as indexes.
+#[tactic(auto, unfolding(crate::specs::Steps::row_of))]
 pub fn kind_of(op: u8, a: usize, b: usize, n: i32) -> Kind
     ensures { result ≡ kind_of op a b n }
 {
@@ -177,24 +177,19 @@ pub fn kind_of(op: u8, a: usize, b: usize, n: i32) -> Kind
     }
 }
 
-// The step whose fields are op, a, b and n: that kind, if the fields are within the limits of their op.
-pub fn decode(limits: &Limits, op: u8, a: u8, b: u16, n: i32) -> Step
+// The step whose fields are op, a, b and n: that kind; none where a field is not within the limits of its op. Its four
+// parameters stay: it is public, and no crate calls it, so that what it takes may not change.
+#[tactic(auto, unfolding(crate::specs::Limits::decoded_within))]
+pub fn decode(limits: &Limits, op: u8, a: u8, b: u16, n: i32) -> Option<Kind>
     ensures { result ≡ decoded_within limits.now op a b n }
 {
-    let i = op as usize;
-    if OPS <= i {
-        return Step::Refused;
-    }
-    if limits[0][i][0] <= a as i32 {
-        return Step::Refused;
-    }
-    if limits[0][i][1] <= b as i32 {
-        return Step::Refused;
-    }
-    if numbers::is_within(n, limits[1][i][0], limits[1][i][1]) {
-        Step::Kind(kind_of(op, a as usize, b as usize, n))
+    let [fields, numbers] = limits;
+    let [a_count, b_count] = *fields.get(usize::from(op))?;
+    let [lowest, highest] = numbers[usize::from(op)];
+    if i32::from(a) < a_count && i32::from(b) < b_count && numbers::is_within(n, lowest, highest) {
+        Some(kind_of(op, usize::from(a), usize::from(b), n))
     } else {
-        Step::Refused
+        None
     }
 }
 
@@ -206,27 +201,34 @@ fn fields_at(steps: &[u8], at: usize) -> Fields
     let i = at * STEP_BYTES;
     let op = steps[i];
     let a = steps[i + 1];
-    let b = numbers::half(steps[i + 2], steps[i + 3]) as u16;
-    let n = numbers::number(steps[i + 4], steps[i + 5], steps[i + 6], steps[i + 7]);
+    let b = u16::from_le_bytes([steps[i + 2], steps[i + 3]]);
+    let n = i32::from_le_bytes([steps[i + 4], steps[i + 5], steps[i + 6], steps[i + 7]]);
     Fields { op, a, b, n }
 }
 
 // The kind of the step at a place whose eight bytes are there, without the test of its fields. It serves the code that plays, whose steps
 // are those of an accepted book.
+#[tactic(auto, unfolding(crate::specs::Steps::kind_at))]
 pub fn kind_at(steps: &[u8], at: usize) -> Kind
     requires { at < steps_in steps.now }
     ensures { result ≡ kind_at steps.now at }
 {
     let fields = fields_at(steps, at);
-    kind_of(fields.op, fields.a as usize, fields.b as usize, fields.n)
+    kind_of(
+        fields.op,
+        usize::from(fields.a),
+        usize::from(fields.b),
+        fields.n,
+    )
 }
 
-// The step at a place of a part of the book whose limits are these; refused where its eight bytes are not there.
-pub fn step_within(steps: &[u8], limits: &Limits, at: usize) -> Step
+// The step at a place of a part of the book whose limits are these; none where its eight bytes are not there or it is turned down.
+#[tactic(auto, unfolding(crate::specs::Limits::step_within))]
+pub fn step_within(steps: &[u8], limits: &Limits, at: usize) -> Option<Kind>
     ensures { result ≡ step_within limits.now steps.now at }
 {
     if steps.len() / STEP_BYTES <= at {
-        return Step::Refused;
+        return None;
     }
     let fields = fields_at(steps, at);
     decode(limits, fields.op, fields.a, fields.b, fields.n)

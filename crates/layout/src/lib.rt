@@ -9,7 +9,7 @@ ghost use Rattle.layout.specs.Layout.{layout_fits, steps_from, layout_verdict};
 
 use kinds::{Counts, Limits, STEP_BYTES};
 use numbers::half_at;
-use verdicts::BookAnswer;
+use verdicts::Refusal;
 
 pub const MOST_ROUTINES: usize = 64;
 
@@ -24,6 +24,7 @@ pub const HEADER_BYTES: usize = 12;
 
 pub const ENTRY_BYTES: usize = 4;
 
+// The four counts: each is one call of `half_at` at its own place, so a const parameter would add a function and take none away.
 pub fn routines(book: &[u8]) -> usize
     ensures { (result ≡ routines_of book.now) × (result < half_limit) }
 {
@@ -59,7 +60,7 @@ pub fn counts_of(book: &[u8]) -> Counts
     }
 }
 
-// What the fields of a step of this book may be.
+// What the fields of a step of this book may be. `as` is proved to lose nothing of 16 bits; try_from would give an Err to handle.
 pub fn limits_in(book: &[u8]) -> Limits
     ensures { result ≡ limits_of (counts_of book.now) }
 {
@@ -74,22 +75,11 @@ fn counts_fit(book: &[u8]) -> bool
     ensures { result ≡ counts_fit book.now }
 {
     let all = routines(book);
-    if all < 1 {
-        return false;
-    }
-    if MOST_ROUTINES < all {
-        return false;
-    }
-    if MOST_STEPS < steps(book) {
-        return false;
-    }
-    if MOST_SIGNALS < signals(book) {
-        return false;
-    }
-    if MOST_COUNTERS < counters(book) {
-        return false;
-    }
-    true
+    1 <= all
+        && all <= MOST_ROUTINES
+        && steps(book) <= MOST_STEPS
+        && signals(book) <= MOST_SIGNALS
+        && counters(book) <= MOST_COUNTERS
 }
 
 // Where the steps begin: behind the header and the directory.
@@ -102,33 +92,25 @@ pub fn steps_from(book: &[u8]) -> usize
 fn layout_fits(book: &[u8]) -> bool
     ensures { result ≡ layout_fits book.now }
 {
-    if half_at(book, 8) != HEADER_BYTES {
-        return false;
-    }
     let from = steps_from(book);
-    if half_at(book, 10) != from {
-        return false;
-    }
-    if book.len() != from + STEP_BYTES * steps(book) {
-        return false;
-    }
-    true
+    half_at(book, 8) == HEADER_BYTES
+        && half_at(book, 10) == from
+        && book.len() == from + STEP_BYTES * steps(book)
 }
 
 // Refusals 1 to 3.
-pub fn check_layout(book: &[u8]) -> BookAnswer
+#[tactic(auto, unfolding(crate::specs::Layout::layout_verdict))]
+pub fn check_layout(book: &[u8]) -> Result<(), Refusal>
     ensures { verdict_of result ≡ layout_verdict book.now }
 {
     if book.len() < HEADER_BYTES {
-        return BookAnswer::TooShort;
+        return Err(Refusal::TooShort);
     }
-    if counts_fit(book) {
-        if layout_fits(book) {
-            BookAnswer::Accepted
-        } else {
-            BookAnswer::WrongLayout
-        }
-    } else {
-        BookAnswer::WrongCount
+    if !counts_fit(book) {
+        return Err(Refusal::WrongCount);
     }
+    if !layout_fits(book) {
+        return Err(Refusal::WrongLayout);
+    }
+    Ok(())
 }

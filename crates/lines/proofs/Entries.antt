@@ -4,18 +4,13 @@ use mathlib.Core.Path.{◌≡◌}
 use mathlib.Core.List.{[], ◌∷◌}
 use native.Mathlib.Omega.{arith}
 use native.Mathlib.Numerals.{add-one}
-use borrow.Author.Tests.{ltb-true}
-use lib.Dec.{ltb}
 use lib.ListN.{length, drop, length-take, drop_of_length-le}
 use lib.Seq.{drop-cons, get_or-take}
-use Rattle.numbers.proofs.Tests.{by_test}
 use Rattle.lines.specs.declared.Line.{Line}
 use Rattle.lines.specs.Lines.{most_entries, item_at, used_of, entries_of}
 
 pub used_most : (l : Line) → used_of l ≤ most_entries
-used_most l =
-    by_test (λ (n : ℕ). n ≤ most_entries) (ltb l.len most_entries)
-    (λ t. omega (arith, ltb-true l.len most_entries t)) (λ f. omega arith)
+used_most l = grind arith
 
 module _ (l : Line) (at : ℕ) where
   pub entries_on : length l.items ≡ most_entries → at < used_of l → drop at (entries_of l) ≡ item_at l at ∷ drop (at + 1) (entries_of l)

@@ -6,7 +6,8 @@ ghost use Rattle.lines.specs.Lines.{most_entries, line_of, used_of, is_in, pushe
 // How many entries a list has room for.
 pub const MOST_ENTRIES: usize = 64;
 
-// A list of routines: its first `len` entries.
+// A list of routines: its first `len` entries. An array with its length beside it, since there is no heap, and games
+// are lent to `zulqenat_fits` of fit_c in this layout.
 #[repr(C)]
 #[derive(Clone, Copy)]
 pub struct Line {
@@ -18,30 +19,18 @@ pub struct Line {
 pub fn used(line: Line) -> usize
     ensures { (result ≡ used_of line) × (result ≤ most_entries) }
 {
-    let len = line.len;
-    if len < MOST_ENTRIES {
-        len
-    } else {
-        MOST_ENTRIES
-    }
+    line.len.min(MOST_ENTRIES)
 }
 
 // Whether a routine is in a list.
 pub fn is_in(line: Line, routine: u8) -> bool
     ensures { result ≡ is_in line routine }
 {
-    let all = used(line);
-    let mut at: usize = 0;
-    while at < all {
-        if line.items[at] == routine {
-            return true;
-        }
-        at += 1;
-    }
-    false
+    line.items[..used(line)].contains(&routine)
 }
 
 // A routine is put behind the first `len` entries, which are lent, and the new length is answered; where all are in use it is not put.
+// By index: after `get_mut` a proof knows none of the entries.
 pub fn push_entry(items: &mut [u8; MOST_ENTRIES], len: usize, routine: u8) -> usize
     ensures { line_of items.new result ≡ pushed (line_of items.old len) routine }
 {

@@ -1,11 +1,9 @@
 #![tactic(auto)]
-// The lines of a listing, put one behind another into a lent buffer. Document 01, "Set plays". As in `texts`, a call answers how many bytes
-// are used then: one more than the buffer has where not all of it fits.
-ghost use Rattle.std.specs.Prelude.{◌≡◌};
-ghost use Rattle.texts.specs.Texts.{filled, with_text};
+// The lines of a listing, put one behind another into a text. Document 01, "Set plays".
+ghost use Rattle.texts.specs.Held.{Puts};
 ghost use Rattle.listing.specs.Listing.{round_line, mark_line, mark_lines, round_lines, refusal_line};
 
-use texts::{put, put_numbered, put_signed_numbered};
+use texts::Text;
 use verdicts::Verdict;
 
 // Two numbers to a mark.
@@ -16,50 +14,46 @@ pub const LONGEST_ROUND_LINE: usize = 82;
 
 pub const LONGEST_MARK_LINE: usize = 49;
 
-fn put_round_line(out: &mut [u8], used: usize, number: usize, passes: usize, marks: usize) -> usize
-    ensures { filled out.new result ≡ with_text (filled out.old used) (round_line number passes marks) }
+fn put_round_line(text: &mut Text, number: usize, passes: usize, marks: usize)
+    ensures { Puts text.old (round_line number passes marks) text.new }
 {
-    let numbered = put_numbered(out, used, b"round ", number as u64);
-    let passed = put_numbered(out, numbered, b" passes ", passes as u64);
-    let marked = put_numbered(out, passed, b" marks ", marks as u64);
-    put(out, marked, b"\n")
+    text.put_numbered(b"round ", number);
+    text.put_numbered(b" passes ", passes);
+    text.put_numbered(b" marks ", marks);
+    text.put(b"\n");
 }
 
-fn put_mark(out: &mut [u8], used: usize, routine: i32, number: i32) -> usize
-    ensures { filled out.new result ≡ with_text (filled out.old used) (mark_line routine number) }
+fn put_mark(text: &mut Text, routine: i32, number: i32)
+    ensures { Puts text.old (mark_line routine number) text.new }
 {
-    let named = put_signed_numbered(out, used, b"mark ", routine);
-    let numbered = put_signed_numbered(out, named, b" ", number);
-    put(out, numbered, b"\n")
+    text.put_numbered(b"mark ", routine);
+    text.put_numbered(b" ", number);
+    text.put(b"\n");
 }
 
 // A line for each mark, of which each is two numbers; a last number without its second is left out.
-fn put_marks(out: &mut [u8], used: usize, marks: &[i32]) -> usize
-    ensures { filled out.new result ≡ with_text (filled out.old used) (mark_lines marks.now) }
+fn put_marks(text: &mut Text, marks: &[i32])
+    ensures { Puts text.old (mark_lines marks.now) text.new }
 {
-    let mut end = used;
-    let mut at: usize = 0;
-    while at + 1 < marks.len() {
-        end = put_mark(out, end, marks[at], marks[at + 1]);
-        at += NUMBERS_PER_MARK;
+    let (pairs, _) = marks.as_chunks::<NUMBERS_PER_MARK>();
+    for &[routine, number] in pairs {
+        put_mark(text, routine, number);
     }
-    end
 }
 
 // The lines of a round: its number, its passes and how many marks it has, and then its marks.
-pub fn put_round(out: &mut [u8], used: usize, number: usize, passes: usize, marks: &[i32]) -> usize
-    ensures { filled out.new result
-        ≡ with_text (filled out.old used) (round_lines number passes marks.now) }
+pub fn put_round(text: &mut Text, number: usize, passes: usize, marks: &[i32])
+    ensures { Puts text.old (round_lines number passes marks.now) text.new }
 {
-    let end = put_round_line(out, used, number, passes, marks.len() / NUMBERS_PER_MARK);
-    put_marks(out, end, marks)
+    put_round_line(text, number, passes, marks.len() / NUMBERS_PER_MARK);
+    put_marks(text, marks);
 }
 
 // The line of a refusal.
-pub fn put_refusal(out: &mut [u8], used: usize, verdict: Verdict) -> usize
-    ensures { filled out.new result ≡ with_text (filled out.old used) (refusal_line verdict) }
+pub fn put_refusal(text: &mut Text, verdict: Verdict)
+    ensures { Puts text.old (refusal_line verdict) text.new }
 {
-    let numbered = put_numbered(out, used, b"refused ", verdict.number as u64);
-    let placed = put_numbered(out, numbered, b" ", verdict.place as u64);
-    put(out, placed, b"\n")
+    text.put_numbered(b"refused ", u64::from(verdict.number));
+    text.put_numbered(b" ", u64::from(verdict.place));
+    text.put(b"\n");
 }

@@ -1,4 +1,5 @@
-// Numbers, flags and routines at places of a stored game. Bytes past the end count as 0.
+// Numbers, flags and routines at places of a stored game. Bytes past the end count as 0. That a place is small stays a clause: places are
+// plain numbers, and a type of them would be taken apart at each sum.
 ghost use Rattle.std.specs.Prelude.{◌≡◌, ◌+◌, ◌≤◌, ◌<◌, length, get_or};
 ghost use Rattle.numbers.specs.Numbers.{signed};
 ghost use Rattle.numbers.specs.Bytes.{word_at};
@@ -19,7 +20,7 @@ const FLAG_LIMIT: u8 = 32;
 pub fn byte_at(s: &[u8], at: usize) -> u8
     ensures { result ≡ get_or s.now at 0 }
 {
-    if at < s.len() { s[at] } else { 0 }
+    s.get(at).copied().unwrap_or(0)
 }
 
 // A number of 32 bits.
@@ -27,7 +28,12 @@ fn word_at(s: &[u8], at: usize) -> u32
     requires { at < place_limit }
     ensures { result ≡ word_at s.now at }
 {
-    (half_at(s, at) as u32) + (half_at(s, at + 2) as u32) * 65536
+    u32::from_le_bytes([
+        byte_at(s, at),
+        byte_at(s, at + 1),
+        byte_at(s, at + 2),
+        byte_at(s, at + 3),
+    ])
 }
 
 // A number of 32 bits in two's complement, which is there.
@@ -35,8 +41,7 @@ pub fn number_at(s: &[u8], at: usize) -> i32
     requires { at + counter_bytes ≤ length s.now }
     ensures { result ≡ signed (word_at s.now at) }
 {
-    let high = at + 2;
-    number(s[at], s[at + 1], s[high], s[high + 1])
+    number(s[at], s[at + 1], s[at + 2], s[at + 3])
 }
 
 // Whether a bit of a byte is set, the lowest being bit 0.
@@ -54,6 +59,7 @@ pub fn signal_in(s: &[u8], from: usize, signal: usize) -> bool
 {
     has_bit(
         byte_at(s, from + signal / BYTE_BITS),
+        // `as`, here and for the place: what has 3 or 16 bits loses nothing, and try_from would give an Err to handle.
         (signal % BYTE_BITS) as u8,
     )
 }
@@ -66,6 +72,7 @@ pub fn record_formed(fields: &[u8]) -> bool
 }
 
 // A routine, by its record.
+#[tactic(auto, unfolding(stored_games::specs::Reading::routine_by_record))]
 pub fn routine_by_record(fields: &[u8]) -> Routine
     ensures { result ≡ routine_by_record fields.now }
 {

@@ -6,11 +6,10 @@ use mathlib.Core.Bool.{◌&&◌, not}
 use mathlib.Core.List.{List}
 use native.Mathlib.Omega.{arith}
 use lib.Dec.{eqb}
+use Rattle.std.specs.Prelude.{Option, Some, None}
 use Rattle.numbers.proofs.Tests.{by_test}
 use Rattle.kinds.specs.declared.Kind.{Kind}
 use Rattle.kinds.specs.declared.Kind.TheVariants as kind
-use Rattle.kinds.specs.declared.Step.{Step}
-use Rattle.kinds.specs.declared.Step.TheVariants as step
 use Rattle.kinds.specs.Steps.{step_at}
 use Rattle.kinds.proofs.Readable.{step_below}
 use Rattle.layout.specs.Layout.{routines_of, counts_of}
@@ -67,9 +66,9 @@ module _ (r : ℕ) (steps : List ℕ) (x : Position) (s : State) (q t : ℕ) whe
   kind_start (kind.While c relation n) e = cc
   kind_start kind.End e = cc
 
-  step_start : (st : Step) → (tick_at r steps x s st).act ≡ starting → st ≡ step.Kind (kind.Start t)
-  step_start (step.Kind k) e = ap step.Kind (kind_start k e)
-  step_start step.Refused e = cc
+  step_start : (st : Option Kind) → (tick_at r steps x s st).act ≡ starting → st ≡ Some (kind.Start t)
+  step_start (Some k) e = ap Some (kind_start k e)
+  step_start None e = cc
 
 pub starts_by :
     (book : List ℕ) → Accepted book → (r : ℕ) → r < routines_of book → (x : Position) (s : State) {q t : ℕ} {events : List Event} →

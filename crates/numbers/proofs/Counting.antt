@@ -2,22 +2,17 @@
 -- on n and on the list.
 use Prim.Native.Nat.{ℕ, zero, suc, ◌<◌, ◌≤◌}
 use mathlib.Core.Path.{◌≡◌, refl}
-use mathlib.Core.Bool.{Bool, true, false}
+use mathlib.Core.Bool.{Bool, false}
 use mathlib.Core.List.{List, [], ◌∷◌}
 use mathlib.Core.Logic.{inl, inr}
 use native.Mathlib.Omega.{arith}
 use lib.ListN.{length, get_or}
-use Rattle.std.specs.Prelude.{if◌then◌else◌}
 use Rattle.numbers.specs.Counting.{sum_below, count_below, Among}
-
-one_each : (t : Bool) → (if t then 1 else 0) ≤ 1
-one_each true = omega arith
-one_each false = omega arith
 
 pub count_all : (P : ℕ → Bool) (n : ℕ) → count_below P n ≤ n
 unfolding sum_below
 count_all P zero = omega arith
-count_all P (suc n) = omega (arith, one_each (P n), count_all P n)
+count_all P (suc n) = let before = count_all P n in grind arith
 
 pub count_none : (P : ℕ → Bool) (n : ℕ) → ((i : ℕ) → i < n → P i ≡ false) → count_below P n ≡ 0
 unfolding sum_below

@@ -1,24 +1,23 @@
 #![tactic(auto)]
 // The numbers of a book: little-endian, of 16 bits and of 32 in two's complement.
-ghost use Rattle.std.specs.Prelude.{◌≡◌, ◌<◌, ◌≤◌, T, eqb, pos, nat_abs, ◌+ℤ◌, ◌-ℤ◌, if◌then◌else◌};
-ghost use Rattle.std.specs.Int.Signed.{non_neg};
+ghost use Rattle.std.specs.Prelude.{◌≡◌, ◌<◌, ◌≤◌, eqb, pos, ◌+ℤ◌, if◌then◌else◌};
 ghost use Rattle.numbers.specs.Numbers.{half_limit, word_limit, half_of, half_at, number_of, is_within, count_of, sum_of, relation_of};
 
 // The ends of n.
-pub const LOWEST: i32 = -1000000;
+pub const LOWEST: i32 = -1_000_000;
 
-pub const HIGHEST: i32 = 1000000;
+pub const HIGHEST: i32 = 1_000_000;
 
-// The ends of a counter.
-pub const LOWEST_COUNTER: i32 = -1000000;
+// The ends of a counter: document 01 gives them in a sentence of their own, so that they are not those of n under another name.
+pub const LOWEST_COUNTER: i32 = -1_000_000;
 
-pub const HIGHEST_COUNTER: i32 = 1000000;
+pub const HIGHEST_COUNTER: i32 = 1_000_000;
 
 // How far below 0 the lowest number of 32 bits lies.
-const RAISE: i64 = 2147483648;
+const RAISE: i64 = 1 << 31;
 
 // The highest bit of a usize: a number divided by it gives 1 where it is that or more, and 0 where it is less.
-const HIGHEST_BIT: usize = 9223372036854775808;
+const HIGHEST_BIT: usize = 1 << 63;
 
 // What an addition to a counter gives: the sum, and what was cut off, the distance between the true sum and the one given.
 #[derive(Clone, Copy)]
@@ -27,90 +26,65 @@ pub struct Sum {
     pub lost: u32,
 }
 
-// A number of 16 bits, from its low and its high byte.
+// A number of 16 bits, from its low and its high byte: from_le_bytes, with the promise that the definition `half_of` states.
 pub fn half(low: u8, high: u8) -> usize
     ensures { (result ≡ half_of low high) × (result < half_limit) }
 {
-    (low as usize) + (high as usize) * 256
+    usize::from(u16::from_le_bytes([low, high]))
 }
 
 // The number of 16 bits at a place of a slice; bytes past the end count as 0.
 pub fn half_at(s: &[u8], at: usize) -> usize
     ensures { (result ≡ half_at s.now at) × (result < half_limit) }
 {
-    if s.len() <= at {
-        return 0;
+    match s.get(at..) {
+        Some([low, high, ..]) => half(*low, *high),
+        Some([low]) => half(*low, 0),
+        _ => 0,
     }
-    let next = at + 1;
-    if s.len() <= next {
-        return half(s[at], 0);
-    }
-    half(s[at], s[next])
 }
 
 // The number of 32 bits, in two's complement, whose bytes are these, lowest first.
 pub fn number(a: u8, b: u8, c: u8, d: u8) -> i32
     ensures { result ≡ number_of a b c d }
 {
-    let word = (a as u32) + (b as u32) * 256 + ((c as u32) + (d as u32) * 256) * 65536;
-    if word < 2147483648 {
-        word as i32
-    } else {
-        let up = 4294967295 - word;
-        0 - (up as i32) - 1
-    }
+    i32::from_le_bytes([a, b, c, d])
 }
 
 // Whether n lies between two ends, both included.
 pub fn is_within(n: i32, low: i32, high: i32) -> bool
     ensures { result ≡ is_within n low high }
 {
-    low <= n && n <= high
+    (low..=high).contains(&n)
 }
 
 // How many times a step with the number n counts: none where n is 0 or less.
 pub fn count(n: i32) -> usize
     ensures { result ≡ count_of n }
 {
-    if n < 0 { 0 } else { n as usize }
-}
-
-// How far one number lies above another.
-fn distance(low: i64, high: i64) -> u32
-    requires { (T (non_neg (high -ℤ low))) × (nat_abs (high -ℤ low) < word_limit) }
-    ensures { result ≡ nat_abs (high -ℤ low) }
-{
-    (high - low) as u32
+    usize::try_from(n).unwrap_or(0)
 }
 
 // A counter's content v with n added, kept between the counter's ends: 64 bits hold the sum of any two numbers of 32.
+// `as` is proved to lose nothing; try_from would give an Err to handle.
 pub fn sum_of(v: i32, n: i32) -> Sum
     ensures { result ≡ sum_of v n }
 {
-    let sum = (v as i64) + (n as i64);
-    if (HIGHEST_COUNTER as i64) < sum {
-        return Sum {
-            sum: HIGHEST_COUNTER,
-            lost: distance(HIGHEST_COUNTER as i64, sum),
-        };
-    }
-    if sum < (LOWEST_COUNTER as i64) {
-        return Sum {
-            sum: LOWEST_COUNTER,
-            lost: distance(sum, LOWEST_COUNTER as i64),
-        };
-    }
+    let sum = i64::from(v) + i64::from(n);
+    let kept = sum.clamp(i64::from(LOWEST_COUNTER), i64::from(HIGHEST_COUNTER));
     Sum {
-        sum: sum as i32,
-        lost: 0,
+        sum: kept as i32,
+        lost: sum.abs_diff(kept) as u32,
     }
 }
 
-// A number raised by 2^31, so that the lowest is 0 and the order stays.
+// A number raised by 2^31, so that the lowest is 0 and the order stays. Arithmetic, here and in the two functions below, where one would
+// write `cmp` and a match on its Ordering: tests/branchless.sh holds the compiled relation to no branch. `as` for the same
+// reason: try_from would branch.
 fn raised(n: i32) -> usize
     ensures { (pos result ≡ n +ℤ pos 2147483648) × (result < word_limit) }
 {
-    ((n as i64) + RAISE) as usize
+    (i64::from(n) + RAISE) as usize
 }
 
 // One of two numbers, each 1 or 0: the first where the weight is 1, and the second where it is 0.
@@ -123,7 +97,8 @@ fn weighed(weight: usize, first: usize, second: usize) -> usize
 
 // A counter's content v against n, by 0 equal, 1 less, 2 greater: 1 where the relation holds, and 0. By arithmetic alone, so that compiled
 // code has no branch: the difference is HIGHEST_BIT where v and n are equal, and its quotients tell less, equal and greater, as 1 or 0. The
-// relation's number gives the weights, of which `from_two` is 1 for 2 and above.
+// relation's number gives the weights, of which `from_two` is 1 for 2 and above. It is a number and no enum: C calls it by that number
+// (`zulqenat_relation`), and `relation_holds` speaks of every number.
 pub fn relation(relation: usize, v: i32, n: i32) -> usize
     ensures { result ≡ relation_of relation v n }
 {

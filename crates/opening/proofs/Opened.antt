@@ -28,6 +28,7 @@ use Rattle.round.specs.Actions.{position_of, placed, in_stage1, in_stage4, witho
 use Rattle.round.proofs.Among.{among_or, among_kept}
 use Rattle.round.proofs.Actions.{each_keeps, each_length, each_other, each_given}
 use Rattle.round.proofs.Actions.{starts_of, joined_of, first, stops, stays, leaving, staying, halted, last}
+use Rattle.tables.specs.declared.Tables.{Tables}
 use Rattle.tables.specs.Tables.{field_count, ends_row, stops_row, suspends_row, resumes_row, suspended_row, begun_row, present_row}
 use Rattle.tables.specs.Tables.{stages_row, places_row, lefts_row, starting_row, row_at, last_row, put_in, routine_in, state_of}
 use Rattle.tables.proofs.Rows.{row_length, row_other, last_other, put_length}
@@ -242,10 +243,21 @@ module _ (book : List ℕ) (g : Game) (a : Accepted book) (f : Fits book g) wher
       ]
 
   pub opened :
-      (flags₀ flags : List Bool) (fields₀ fields : List ℕ) (order : Line) → Taken g.routines g.counts.routines flags₀ fields₀ →
-      flags ≡ with_signals g.broadcast flags₀ → order ≡ opened_order g.listed g.starting flags fields₀ →
-      fields ≡ opened_fields g.listed g.starting flags fields₀ → Opened book g order g.counters flags fields
-  opened flags₀ flags fields₀ fields order t e o k =
+      (before after : Tables) (order : Line) → Taken g.routines g.counts.routines before.flags before.fields →
+      before.counters ≡ g.counters → before.tally ≡ no_tally → order ≡ opened_order g.listed g.starting after.flags before.fields →
+      after
+      ≡ record before {
+        flags = with_signals g.broadcast before.flags;
+        fields = opened_fields g.listed g.starting after.flags before.fields;
+      } →
+      Opened book g order after
+  opened before after order t counters tally o same =
+      let flags₀ = before.flags in
+      let fields₀ = before.fields in
+      let e = ap (λ (u : Tables). u.flags) same in
+      let k = ap (λ (u : Tables). u.fields) same in
+      let counters_then = ap (λ (u : Tables). u.counters) same ∙ counters in
+      let tally_then = ap (λ (u : Tables). u.tally) same ∙ tally in
       let n = g.counts.routines in
       let long = f.sized.routines in
       let wide = f.sized.broadcast in
@@ -255,5 +267,6 @@ module _ (book : List ℕ) (g : Game) (a : Accepted book) (f : Fits book g) wher
         listed = (rw e at o) ∙ opened_line g n flags₀ fields₀ long wide t none_beyond;
         flags_long = rw e (signals_length g.broadcast flags₀ ∙ t.flags_long);
         fields_long = rw (k, e) (opened_length g n flags₀ fields₀ long wide t none_beyond);
-        holds = λ given. rw (k, e) (opened_state g n flags₀ fields₀ long wide t none_beyond given);
+        uncounted = tally_then;
+        holds = λ given. rw (counters_then, tally_then, k, e) (opened_state g n flags₀ fields₀ long wide t none_beyond given);
       }

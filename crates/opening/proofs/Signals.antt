@@ -1,28 +1,15 @@
 -- Action 2 puts the signals into the last row of flags, one by one. It is then that row, and the rows before it are as they were.
-use Prim.Native.Nat.{ℕ, suc, ◌+◌, ◌≤◌, ◌<◌}
+use Prim.Native.Nat.{ℕ, suc, ◌+◌, ◌≤◌}
 use mathlib.Core.Path.{◌≡◌, ◌∙◌, refl}
-use mathlib.Core.Bool.{Bool, false}
+use mathlib.Core.Bool.{Bool}
 use mathlib.Core.List.{List, [], ◌∷◌, append-nil}
 use native.Mathlib.Omega.{arith}
-use native.Mathlib.Numerals.{add-one}
-use lib.ListN.{length, get_or, set, take, drop, drop_of_length-le}
-use lib.Seq.{sets, drop-cons, length-take-le, length-sets, sets-eq, drop_at}
+use lib.ListN.{length, set, take, drop_of_length-le}
+use lib.Seq.{sets, length-take-le, length-sets, sets-eq, drop_at}
 use Rattle.layout.specs.Layout.{most_routines, most_signals}
 use Rattle.tables.specs.Tables.{present_row, flag_count, row_at, last_row}
 use Rattle.tables.proofs.Rows.{row_last}
 use Rattle.opening.specs.Actions.{with_signals}
-
--- signal `at`
-module _ (signals flags : List Bool) (k at : ℕ) where
-  abbrev signal : Bool
-  signal = get_or signals at false
-
-  pub signal_on :
-      at < length signals → sets flags (k + at) (drop at signals) ≡ sets (set flags (k + at) signal) (k + (at + 1)) (drop (at + 1) signals)
-  signal_on more = let next : k + suc at ≡ suc (k + at) = omega arith in rw (drop-cons signals at false more, add-one, next)
-
-  pub signal_over : length signals ≤ at → sets flags (k + at) (drop at signals) ≡ flags
-  signal_over over = rw (drop_of_length-le signals {i = at} over)
 
 -- stores from place k on
 module _ {A : Type 0} where

@@ -16,38 +16,29 @@ ghost use Rattle.opening.specs.Games.{game_of, HoldsGame};
 use actions::{broadcast, join, settle};
 use game::{Game, Routine};
 use kinds::Counts;
-use layout::{MOST_COUNTERS, MOST_ROUTINES, MOST_SIGNALS};
+use layout::{MOST_ROUTINES, MOST_SIGNALS};
 use lines::{Line, MOST_ENTRIES};
-use tables::{
-    BEGUN, ENDS, FIELDS, FLAGS, LEFTS, PLACES, RESUMES, STAGES, STOPS, SUSPENDED, SUSPENDS,
-    field_at, flag_at, put_field, put_flag, starting_at,
-};
+use tables::{Field, Flag, Tables};
 
 // 4. and 5. Whether a routine is suspended once it is resumed, then suspended.
 fn is_suspended(routine: Routine) -> bool
     ensures { result ≡ (without_orders routine).suspended }
 {
-    if routine.suspending {
-        return true;
-    }
-    if routine.suspended {
-        return !routine.resuming;
-    }
-    false
+    routine.suspending || (routine.suspended && !routine.resuming)
 }
 
 // A routine is taken apart. 3. Its end signal is present if it is to stop. 4. and 5. It is resumed, then suspended.
-// 8. It is in no set any more.
-pub fn take(routine: Routine, at: usize, flags: &mut [bool; FLAGS], fields: &mut [u32; FIELDS])
-    ensures flags_after { flags.new ≡ taken_flags routine at flags.old }
-    ensures fields_after { fields.new ≡ taken_fields routine at fields.old }
+// 8. It is in no set any more. The count left is widened by `as`: usize has no From<u32>.
+pub fn take(routine: Routine, at: usize, tables: &mut Tables)
+    ensures { tables.new
+        ≡ record tables.old { flags = taken_flags routine at tables.old.flags; fields = taken_fields routine at tables.old.fields } }
 {
-    put_flag(flags, ENDS, at, routine.stopping);
-    put_flag(flags, SUSPENDED, at, is_suspended(routine));
-    put_flag(flags, BEGUN, at, routine.begun);
-    put_field(fields, STAGES, at, routine.stage as usize);
-    put_field(fields, PLACES, at, routine.place as usize);
-    put_field(fields, LEFTS, at, routine.left as usize);
+    tables.put_flag(Flag::Ends, at, routine.stopping);
+    tables.put_flag(Flag::Suspended, at, is_suspended(routine));
+    tables.put_flag(Flag::Begun, at, routine.begun);
+    tables.put_field(Field::Stage, at, usize::from(routine.stage));
+    tables.put_field(Field::Place, at, usize::from(routine.place));
+    tables.put_field(Field::Left, at, routine.left as usize);
 }
 
 // The playing order of a round, with what actions 1, 2, 3 and 6 do to its tables.
@@ -55,86 +46,71 @@ pub fn open(
     listed: Line,
     starting: Line,
     signals: [bool; MOST_SIGNALS],
-    flags: &mut [bool; FLAGS],
-    fields: &mut [u32; FIELDS],
+    tables: &mut Tables,
 ) -> Line
-    ensures flags_after { flags.new ≡ with_signals signals flags.old }
-    ensures value { result ≡ opened_order listed starting flags.new fields.old }
-    ensures fields_after { fields.new ≡ opened_fields listed starting flags.new fields.old }
+    ensures value { result ≡ opened_order listed starting tables.new.flags tables.old.fields }
+    ensures after { tables.new
+        ≡ record tables.old {
+          flags = with_signals signals tables.old.flags;
+          fields = opened_fields listed starting tables.new.flags tables.old.fields;
+        } }
 {
-    let joined = join(listed, starting, fields);
-    broadcast(signals, flags);
-    settle(joined, flags, fields)
+    let joined = join(listed, starting, tables);
+    broadcast(signals, tables);
+    settle(joined, tables)
 }
 
-// A routine as the tables have it.
-fn routine_at(flags: &[bool; FLAGS], fields: &[u32; FIELDS], at: usize) -> Routine
-    requires { (get_or (row_at stages_row fields.now) at 0 < byte_limit) × (get_or (row_at places_row fields.now) at 0 < half_limit) }
-    ensures { result ≡ routine_in flags.now fields.now at }
+// A routine as the tables have it. Its numbers are narrowed by `as`: the clause says that they fit, and TryFrom would give an Err as well.
+fn routine_at(tables: &Tables, at: usize) -> Routine
+    requires { (get_or (row_at stages_row tables.now.fields) at 0 < byte_limit)
+        × (get_or (row_at places_row tables.now.fields) at 0 < half_limit) }
+    ensures { result ≡ routine_in tables.now.flags tables.now.fields at }
 {
-    let stage = field_at(fields, STAGES, at) as u8;
-    let place = field_at(fields, PLACES, at) as u16;
-    let left = field_at(fields, LEFTS, at) as u32;
-    let suspended = flag_at(flags, SUSPENDED, at);
-    let begun = flag_at(flags, BEGUN, at);
-    let stopping = flag_at(flags, STOPS, at);
-    let suspending = flag_at(flags, SUSPENDS, at);
-    let resuming = flag_at(flags, RESUMES, at);
     Routine {
-        stage,
-        place,
-        left,
-        suspended,
-        begun,
-        stopping,
-        suspending,
-        resuming,
+        stage: tables.field(Field::Stage, at) as u8,
+        place: tables.field(Field::Place, at) as u16,
+        left: tables.field(Field::Left, at) as u32,
+        suspended: tables.flag(Flag::Suspended, at),
+        begun: tables.flag(Flag::Begun, at),
+        stopping: tables.flag(Flag::Stops, at),
+        suspending: tables.flag(Flag::Suspends, at),
+        resuming: tables.flag(Flag::Resumes, at),
     }
 }
 
-// Those to start as the tables have them.
-fn starting_line(fields: &[u32; FIELDS], count: usize) -> Line
-    requires count_le_most_entries { (count ≤ most_entries) × (length fields.now ≡ field_count) }
-    requires by_index { (i : ℕ) → i < count → get_or (last_row starting_row fields.now) i 0 < byte_limit }
-    requires by_index_2 { (i : ℕ) → count ≤ i → i < most_entries → get_or (last_row starting_row fields.now) i 0 ≡ 0 }
-    ensures { result ≡ start_line fields.now count }
+// Those to start as the tables have them, narrowed in the same way. By index: with `array::from_fn` it is proved, but no library can be built
+// of that proof.
+fn starting_line(tables: &Tables) -> Line
+    requires short { (tables.now.tally.starting ≤ most_entries) × (length tables.now.fields ≡ field_count) }
+    requires entries { (i : ℕ) → i < tables.now.tally.starting → get_or (last_row starting_row tables.now.fields) i 0 < byte_limit }
+    requires beyond { (i : ℕ) → tables.now.tally.starting ≤ i → i < most_entries →
+        get_or (last_row starting_row tables.now.fields) i 0 ≡ 0 }
+    ensures { result ≡ start_line tables.now.fields tables.now.tally.starting }
 {
+    let len = tables.tally.starting;
     let mut items = [0u8; MOST_ENTRIES];
-    let mut at: usize = 0;
-    while at < count {
-        items[at] = starting_at(fields, at) as u8;
-        at += 1;
+    for at in 0..len {
+        items[at] = tables.starting(at) as u8;
     }
-    Line { items, len: count }
+    Line { items, len }
 }
 
-// The game that the tables hold at the end of a round: with these numbers R, E and C, this playing order, these counters and so many to
-// start. The lent routines beyond R stay.
-pub fn finish(
-    counts: Counts,
-    lent: [Routine; MOST_ROUTINES],
-    order: Line,
-    counters: [i32; MOST_COUNTERS],
-    count: usize,
-    flags: &[bool; FLAGS],
-    fields: &[u32; FIELDS],
-) -> Game
-    requires { HoldsGame counts.routines lent flags.now fields.now count }
-    ensures { result ≡ game_of counts order counters flags.now fields.now count }
+// The game that the tables hold at the end of a round, with these numbers R, E and C and this playing order. The lent routines beyond R
+// stay.
+pub fn finish(counts: Counts, lent: [Routine; MOST_ROUTINES], order: Line, tables: &Tables) -> Game
+    requires { HoldsGame counts.routines lent tables.now }
+    ensures { result ≡ game_of counts order tables.now }
 {
-    let all = counts.routines;
     let mut routines = lent;
-    let mut at: usize = 0;
-    while at < all {
-        routines[at] = routine_at(flags, fields, at);
-        at += 1;
+    for (at, routine) in routines[..counts.routines].iter_mut().enumerate() {
+        *routine = routine_at(tables, at);
     }
     Game {
         counts,
         routines,
-        counters,
+        counters: tables.counters,
         listed: order,
-        starting: starting_line(fields, count),
+        starting: starting_line(tables),
         broadcast: [false; MOST_SIGNALS],
     }
 }

@@ -12,13 +12,11 @@ use native.Mathlib.Omega.{arith}
 use lib.Dec.{eqb}
 use lib.IntN.{ℤ}
 use borrow.Author.Tests.{ne_eqb}
-use Rattle.std.specs.Prelude.{if◌then◌else◌}
+use Rattle.std.specs.Prelude.{if◌then◌else◌, Option, Some, None}
 use Rattle.numbers.specs.Numbers.{count_of}
 use Rattle.numbers.proofs.Left.{more_left}
 use Rattle.kinds.specs.declared.Kind.{Kind}
 use Rattle.kinds.specs.declared.Kind.TheVariants.{Else}
-use Rattle.kinds.specs.declared.Step.{Step}
-use Rattle.kinds.specs.declared.Step.TheVariants as step
 use Rattle.kinds.specs.declared.Counts.{Counts}
 use Rattle.forms.specs.declared.Form.{Form}
 use Rattle.forms.specs.declared.Form.TheVariants.{Plain, Pausing, IfOpening, ElseMarker, WhileOpening, EndMarker}
@@ -40,9 +38,9 @@ look_at WhileOpening on d p = on (d + 1)
 look_at EndMarker on d p = if eqb d 0 then p else on (d - 1)
 
 -- the kind of a step that stands
-kind_seen : (x : Step) {f : Form} → seen x ≡ stands f → (k : Kind) × (x ≡ step.Kind k) × (form_of k ≡ f)
-kind_seen (step.Kind k) h = (k, refl, cc)
-kind_seen step.Refused h = (Else, cc, cc)
+kind_seen : (x : Option Kind) {f : Form} → seen x ≡ stands f → (k : Kind) × (x ≡ Some k) × (form_of k ≡ f)
+kind_seen (Some k) h = (k, refl, cc)
+kind_seen None h = (Else, cc, cc)
 
 module _ (on : ℕ → ℕ) (d p : ℕ) where
   -- the look at an op is the look at the form of its kind
@@ -76,7 +74,7 @@ module _ (counts : Counts) (s : List ℕ) (n : ℕ) where
   seen_there p h = sym (view_seen counts s n p (standing_below counts s n p h)) ∙ h
 
   -- a step that stands at a place is one of the kinds
-  pub kind_there : (p : ℕ) {f : Form} → at p ≡ stands f → (k : Kind) × (step_at counts s p ≡ step.Kind k) × (form_of k ≡ f)
+  pub kind_there : (p : ℕ) {f : Form} → at p ≡ stands f → (k : Kind) × (step_at counts s p ≡ Some k) × (form_of k ≡ f)
   kind_there p h = kind_seen (step_at counts s p) (seen_there p h)
 
   -- what the search from place p on comes to, with d inner pairs open

@@ -5,7 +5,6 @@ use mathlib.Core.Bool.{Bool, true, false, not}
 use mathlib.Core.List.{List}
 use native.Mathlib.Omega.{arith}
 use native.Mathlib.Numerals.{sub-one}
-use lib.Dec.{eqb}
 use lib.IntN.{ℤ}
 use lib.ListN.{length}
 use Rattle.game.specs.declared.Game.{Game}
@@ -14,23 +13,24 @@ use Rattle.lines.specs.Lines.{entries_of}
 use Rattle.round.specs.State.{State}
 use Rattle.round.specs.Rounds.{pass_then, all_done, for_next_pass, most_passes, pass, instant}
 use Rattle.round.specs.Answers.{marks_in}
-use Rattle.tables.specs.declared.Tally.{Tally}
-use Rattle.tables.specs.Tables.{state_of, Whole}
+use Rattle.tables.specs.declared.Tables.{Tables}
+use Rattle.tables.specs.Tables.{state_of, state_in, WholeIn}
 use Rattle.passing.specs.Effects.{Marks, marks_of, marks_put}
 use Rattle.passing.specs.Turns.{marks_after}
 use Rattle.passing.specs.Passes.{PassAsks, PassesAsk, Passing, passing, passed_by, passes as passes_of, passes_by}
 use Rattle.passing.proofs.Held.{still_whole}
 use Rattle.passing.proofs.TurnMarks.{marks_append}
 
-abbrev unmoved : Tally → Tally
-unmoved t = record { starting = t.starting; given = t.given; marks = t.marks; lost = t.lost; moved = 0 }
+-- before another pass nothing has moved
+abbrev pub unmoved : Tables → Tables
+unmoved t = record t { tally = record t.tally { moved = false } }
 
 -- the flags for another pass
 next_pass_held :
-    (g : Game) (counters : List ℤ) (flags : List Bool) (fields : List ℕ) (given : List ℤ) (t : Tally) (eoi : Bool) →
-    for_next_pass (state_of g counters flags fields given t eoi) ≡ state_of g counters flags fields given (unmoved t) (not (eqb t.moved 1))
+    (g : Game) (t : Tables) (given : List ℤ) (eoi : Bool) →
+    for_next_pass (state_in g t given eoi) ≡ state_in g (unmoved t) given (not t.tally.moved)
 unfolding state_of
-next_pass_held g counters flags fields given t eoi = refl
+next_pass_held g t given eoi = refl
 
 module _ (book : List ℕ) (rs : List ℕ) where
   one_more :
@@ -72,34 +72,28 @@ module _ (book : List ℕ) (rs : List ℕ) where
 
 -- the passes so far: the tables, with the passes that are still allowed, lead to what they led to at the start
 pub record Among
-    (book : List ℕ) (order : Line) (counters₀ : List ℤ) (flags₀ : List Bool) (fields₀ : List ℕ) (given₀ marks₀ : List ℤ) (tally₀ : Tally)
-    (counters : List ℤ) (flags : List Bool) (fields : List ℕ) (given marks : List ℤ) (tally : Tally) (eoi : Bool) (passes : ℕ)
+    (book : List ℕ) (order : Line) (t₀ : Tables) (given₀ marks₀ : List ℤ) (t : Tables) (given marks : List ℤ) (eoi : Bool) (passes : ℕ)
     : Type 0 where
-  pub whole : Whole (length given₀ / 2) flags fields tally
+  pub whole : WholeIn (length given₀ / 2) t
   pub given_long : length given ≡ length given₀
   pub marks_long : length marks ≡ length marks₀
   pub few : passes ≤ most_passes
   pub leads :
       (g : Game) →
-      passes_by (instant book (most_passes - passes) (entries_of order) (state_of g counters flags fields given tally eoi))
-      (marks_of marks tally.marks) passes
-      ≡ passes_by (instant book most_passes (entries_of order) (state_of g counters₀ flags₀ fields₀ given₀ tally₀ false))
-      (marks_of marks₀ tally₀.marks) 0
+      passes_by (instant book (most_passes - passes) (entries_of order) (state_in g t given eoi)) (marks_of marks t.tally.marks) passes
+      ≡ passes_by (instant book most_passes (entries_of order) (state_in g t₀ given₀ false)) (marks_of marks₀ t₀.tally.marks) 0
   pub asks :
-      (g : Game) →
-      PassesAsk (length given₀ / 2) book most_passes (entries_of order) (state_of g counters₀ flags₀ fields₀ given₀ tally₀ false) →
-      PassesAsk (length given₀ / 2) book (most_passes - passes) (entries_of order) (state_of g counters flags fields given tally eoi)
+      (g : Game) → PassesAsk (length given₀ / 2) book most_passes (entries_of order) (state_in g t₀ given₀ false) →
+      PassesAsk (length given₀ / 2) book (most_passes - passes) (entries_of order) (state_in g t given eoi)
 
 module _
-    {book : List ℕ} {order : Line} {counters₀ : List ℤ} {flags₀ : List Bool} {fields₀ : List ℕ} {given₀ marks₀ : List ℤ} {tally₀ : Tally}
-    {counters : List ℤ} {flags : List Bool} {fields : List ℕ} {given marks : List ℤ} {tally : Tally} {eoi : Bool} {passes : ℕ}
-    (i : Among book order counters₀ flags₀ fields₀ given₀ marks₀ tally₀ counters flags fields given marks tally eoi passes)
-    (more : passes < most_passes) where
+    {book : List ℕ} {order : Line} {t₀ : Tables} {given₀ marks₀ : List ℤ} {t : Tables} {given marks : List ℤ} {eoi : Bool} {passes : ℕ}
+    (i : Among book order t₀ given₀ marks₀ t given marks eoi passes) (more : passes < most_passes) where
   abbrev held : Game → State
-  held g = state_of g counters flags fields given tally eoi
+  held g = state_in g t given eoi
 
   abbrev started : Game → State
-  started g = state_of g counters₀ flags₀ fields₀ given₀ tally₀ false
+  started g = state_in g t₀ given₀ false
 
   pub pass_asks :
       (g : Game) → PassesAsk (length given₀ / 2) book most_passes (entries_of order) (started g) →
@@ -108,17 +102,16 @@ module _
 
   -- behind one more pass
   module _
-      (counters' : List ℤ) (flags' : List Bool) (fields' : List ℕ) (given' marks' : List ℤ) (tally' : Tally) (done : Bool)
+      (t' : Tables) (given' marks' : List ℤ) (done : Bool)
       (passed :
       (g : Game) →
-      passing (state_of g counters' flags' fields' given' tally' eoi) (marks_of marks' tally'.marks) done
-      ≡ passed_by (pass book (entries_of order) (held g)) (marks_of marks tally.marks) true) where
-    state_passed : (g : Game) → state_of g counters' flags' fields' given' tally' eoi ≡ (pass book (entries_of order) (held g)).state
+      passing (state_in g t' given' eoi) (marks_of marks' t'.tally.marks) done
+      ≡ passed_by (pass book (entries_of order) (held g)) (marks_of marks t.tally.marks) true) where
+    state_passed : (g : Game) → state_in g t' given' eoi ≡ (pass book (entries_of order) (held g)).state
     state_passed g = ap (λ (x : Passing). x.state) (passed g)
 
     marks_passed :
-        (g : Game) → marks_of marks' tally'.marks
-        ≡ marks_after (pass book (entries_of order) (held g)).trace (marks_of marks tally.marks)
+        (g : Game) → marks_of marks' t'.tally.marks ≡ marks_after (pass book (entries_of order) (held g)).trace (marks_of marks t.tally.marks)
     marks_passed g = ap (λ (x : Passing). x.marks) (passed g)
 
     all_done_lem : (g : Game) → all_done (pass book (entries_of order) (held g)).turns ≡ done
@@ -126,17 +119,15 @@ module _
 
     pub ends :
         done ≡ true → (g : Game) →
-        passes_of (state_of g counters' flags' fields' given' tally' eoi) (marks_of marks' tally'.marks) (passes + 1)
-        ≡ passes_by (instant book most_passes (entries_of order) (started g)) (marks_of marks₀ tally₀.marks) 0
+        passes_of (state_in g t' given' eoi) (marks_of marks' t'.tally.marks) (passes + 1)
+        ≡ passes_by (instant book most_passes (entries_of order) (started g)) (marks_of marks₀ t₀.tally.marks) 0
     ends d g =
         let last = last_pass book (entries_of order) (most_passes - passes) (held g) _ passes (omega arith) (all_done_lem g ∙ d) in
         rw (state_passed g, marks_passed g) (sym last ∙ i.leads g)
 
     pub goes :
-        done ≡ false → Whole (length given₀ / 2) flags' fields' tally' →
-        length given' ≡ length given₀ → length marks' ≡ length marks₀ →
-        Among book order counters₀ flags₀ fields₀ given₀ marks₀ tally₀ counters' flags' fields' given' marks' (unmoved tally')
-        (not (eqb tally'.moved 1)) (passes + 1)
+        done ≡ false → WholeIn (length given₀ / 2) t' → length given' ≡ length given₀ → length marks' ≡ length marks₀ →
+        Among book order t₀ given₀ marks₀ (unmoved t') given' marks' (not t'.tally.moved) (passes + 1)
     goes d whole given_long marks_long =
         let left : most_passes - (passes + 1) ≡ most_passes - passes - 1 = omega arith in
         record {
@@ -147,10 +138,9 @@ module _
           leads =
               λ g.
               let next = next_pass_lem book (entries_of order) (most_passes - passes) (held g) _ passes (omega arith) (all_done_lem g ∙ d) in
-              rw (left, ← (next_pass_held g counters' flags' fields' given' tally' eoi), state_passed g, marks_passed g)
-              (sym next ∙ i.leads g);
+              rw (left, ← (next_pass_held g t' given' eoi), state_passed g, marks_passed g) (sym next ∙ i.leads g);
           asks =
               λ g f.
-              rw (left, ← (next_pass_held g counters' flags' fields' given' tally' eoi), state_passed g)
+              rw (left, ← (next_pass_held g t' given' eoi), state_passed g)
               (asks_next book (entries_of order) _ (most_passes - passes) (held g) (omega arith) (all_done_lem g ∙ d) (i.asks g f));
         }

@@ -1,7 +1,7 @@
 -- The state that the tables hold behind the store that an effect makes: what the effect does to the state. The rows that a store does not
 -- touch stay, and of the routines one changes, or none.
 use Prim.Native.Nat.{ℕ, ◌+◌, ◌*◌, ◌/◌, ◌≤◌, ◌<◌}
-use mathlib.Core.Path.{◌≡◌, refl, ap, ◌∙◌}
+use mathlib.Core.Path.{◌≡◌, refl, ◌∙◌}
 use mathlib.Core.Logic.{◌≢◌, inl}
 use mathlib.Core.Bool.{Bool, true, false}
 use mathlib.Core.List.{List}
@@ -92,16 +92,16 @@ still_whole w a b starting given =
 
 -- so they do behind a store of a flag
 pub flag_whole :
-    {room : ℕ} {flags flags' : List Bool} {fields : List ℕ} {t : Tally} (k r : ℕ) (v : Bool) → Whole room flags fields t →
-    flags' ≡ put_in k r v flags → Whole room flags' fields t
-flag_whole k r v w put = still_whole w (ap length put ∙ put_length k r v _) refl w.starting_fits w.given_fits
+    {room : ℕ} {flags : List Bool} {fields : List ℕ} {t : Tally} (k r : ℕ) (v : Bool) → Whole room flags fields t →
+    Whole room (put_in k r v flags) fields t
+flag_whole k r v w = still_whole w (put_length k r v _) refl w.starting_fits w.given_fits
 
 -- what is counted, with other marks, with a move and so many numbers, with so many to start, with so much more cut off
 abbrev pub marking : Tally → ℕ → Tally
 marking t n = record { starting = t.starting; given = t.given; marks = n; lost = t.lost; moved = t.moved }
 
 abbrev pub moving : Tally → ℕ → Tally
-moving t given = record { starting = t.starting; given = given; marks = t.marks; lost = t.lost; moved = 1 }
+moving t given = record { starting = t.starting; given = given; marks = t.marks; lost = t.lost; moved = true }
 
 abbrev pub adding : Tally → ℕ → Tally
 adding t n = record { starting = n; given = t.given; marks = t.marks; lost = t.lost; moved = t.moved }
@@ -225,3 +225,20 @@ start_fits_lem n r fields h =
     by_test (λ (k : ℕ). k ≤ most_entries) (adds fields n r)
     (λ a. by_test (λ (k : ℕ). k ≤ most_entries) (ltb n most_entries) (λ b. omega (arith, ltb-true n most_entries b)) (λ b. h))
     (λ a. h)
+
+-- what each effect does
+pub ruleset held = (
+  put_held,
+  give_held,
+  give_number_held,
+  start_held,
+  stop_held,
+  suspend_held,
+  resume_held,
+  still_whole,
+  flag_whole,
+  started_length,
+  start_fits_lem,
+  length-set,
+  put_length,
+)

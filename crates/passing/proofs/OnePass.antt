@@ -4,20 +4,20 @@ use mathlib.Core.Path.{◌≡◌, sym, ap, ◌∙◌}
 use mathlib.Core.Bool.{Bool, true, ◌&&◌, and-true, and_assoc}
 use mathlib.Core.List.{List, [], ◌∷◌}
 use native.Mathlib.Omega.{arith}
-use lib.Dec.{eqb}
 use lib.IntN.{ℤ}
 use lib.ListN.{length, drop}
+use Rattle.std.specs.Prelude.{Option}
 use Rattle.lines.specs.declared.Line.{Line}
 use Rattle.lines.specs.Lines.{most_entries, item_at, used_of, entries_of}
 use Rattle.lines.proofs.Entries.{entries_on}
 use Rattle.game.specs.declared.Game.{Game}
-use Rattle.round.specs.declared.Turn.{Turn}
+use Rattle.round.specs.declared.Ending.{Ending}
 use Rattle.round.specs.State.{State}
 use Rattle.round.specs.Rounds.{is_done, all_done, turn, pass}
 use Rattle.round.specs.Answers.{marks_in}
 use Rattle.round.proofs.Waiting.{done_append}
-use Rattle.tables.specs.declared.Tally.{Tally}
-use Rattle.tables.specs.Tables.{state_of, Whole}
+use Rattle.tables.specs.declared.Tables.{Tables}
+use Rattle.tables.specs.Tables.{state_in, WholeIn}
 use Rattle.passing.specs.Effects.{Marks, marks_of, marks_put}
 use Rattle.passing.specs.Turns.{TurnAsks, Behind, turned, turned_by}
 use Rattle.passing.specs.Passes.{PassAsks, passing, passed_by}
@@ -39,27 +39,24 @@ pass_none book s m done = rw (and-true done)
 
 -- a pass so far: the tables, with the routines from entry `at` on, lead to what they led to at its start
 pub record Between
-    (book : List ℕ) (eoi : Bool) (counters₀ : List ℤ) (flags₀ : List Bool) (fields₀ : List ℕ) (given₀ marks₀ : List ℤ) (order : Line)
-    (tally₀ : Tally) (counters : List ℤ) (flags : List Bool) (fields : List ℕ) (given marks : List ℤ) (tally : Tally) (continued at : ℕ)
+    (book : List ℕ) (eoi : Bool) (t₀ : Tables) (given₀ marks₀ : List ℤ) (order : Line) (t : Tables) (given marks : List ℤ) (done : Bool) (at : ℕ)
     : Type 0 where
   pub inside : at ≤ used_of order
-  pub whole : Whole (length given₀ / 2) flags fields tally
+  pub whole : WholeIn (length given₀ / 2) t
   pub given_long : length given ≡ length given₀
   pub marks_long : length marks ≡ length marks₀
   pub leads :
       (g : Game) →
-      passed_by (pass book (drop at (entries_of order)) (state_of g counters flags fields given tally eoi)) (marks_of marks tally.marks)
-      (eqb continued 0)
-      ≡ passed_by (pass book (entries_of order) (state_of g counters₀ flags₀ fields₀ given₀ tally₀ eoi)) (marks_of marks₀ tally₀.marks) true
+      passed_by (pass book (drop at (entries_of order)) (state_in g t given eoi)) (marks_of marks t.tally.marks) done
+      ≡ passed_by (pass book (entries_of order) (state_in g t₀ given₀ eoi)) (marks_of marks₀ t₀.tally.marks) true
   pub asks :
-      (g : Game) → PassAsks (length given₀ / 2) book (entries_of order) (state_of g counters₀ flags₀ fields₀ given₀ tally₀ eoi) →
-      PassAsks (length given₀ / 2) book (drop at (entries_of order)) (state_of g counters flags fields given tally eoi)
+      (g : Game) → PassAsks (length given₀ / 2) book (entries_of order) (state_in g t₀ given₀ eoi) →
+      PassAsks (length given₀ / 2) book (drop at (entries_of order)) (state_in g t given eoi)
 
 module _
-    {book : List ℕ} {eoi : Bool} {counters₀ : List ℤ} {flags₀ : List Bool} {fields₀ : List ℕ} {given₀ marks₀ : List ℤ} {order : Line}
-    {tally₀ : Tally} {counters : List ℤ} {flags : List Bool} {fields : List ℕ} {given marks : List ℤ} {tally : Tally} {continued at : ℕ}
-    (i : Between book eoi counters₀ flags₀ fields₀ given₀ marks₀ order tally₀ counters flags fields given marks tally continued at)
-    (long : length order.items ≡ most_entries) (more : at < used_of order) (r : ℕ) (is : r ≡ item_at order at) where
+    {book : List ℕ} {eoi : Bool} {t₀ : Tables} {given₀ marks₀ : List ℤ} {order : Line} {t : Tables} {given marks : List ℤ} {done : Bool} {at : ℕ}
+    (i : Between book eoi t₀ given₀ marks₀ order t given marks done at) (long : length order.items ≡ most_entries) (more : at < used_of order)
+    (r : ℕ) (is : r ≡ item_at order at) where
   abbrev rest : List ℕ
   rest = drop (at + 1) (entries_of order)
 
@@ -67,10 +64,10 @@ module _
   split = rw (is, entries_on order at long more)
 
   abbrev held : Game → State
-  held g = state_of g counters flags fields given tally eoi
+  held g = state_in g t given eoi
 
   abbrev AtStart : Game → Type 0
-  AtStart g = PassAsks (length given₀ / 2) book (entries_of order) (state_of g counters₀ flags₀ fields₀ given₀ tally₀ eoi)
+  AtStart g = PassAsks (length given₀ / 2) book (entries_of order) (state_in g t₀ given₀ eoi)
 
   asks_now :
       (g : Game) → AtStart g →
@@ -84,17 +81,14 @@ module _
 
   -- behind that turn
   pub goes_on_lem :
-      (t : Turn) (counters' : List ℤ) (flags' : List Bool) (fields' : List ℕ) (given' marks' : List ℤ) (tally' : Tally)
-      (continued' : ℕ) →
+      (how : Option Ending) (t' : Tables) (given' marks' : List ℤ) →
       ((g : Game) →
-      turned (state_of g counters' flags' fields' given' tally' eoi) (marks_of marks' tally'.marks) t
-      ≡ turned_by (turn book r (held g)) (marks_of marks tally.marks)) →
-      Whole (length given₀ / 2) flags' fields' tally' → length given' ≡ length given₀ → length marks' ≡ length marks₀ →
-      eqb continued' 0 ≡ (eqb continued 0 && is_done t) →
-      Between book eoi counters₀ flags₀ fields₀ given₀ marks₀ order tally₀
-      counters' flags' fields' given' marks' tally' continued' (at + 1)
+      turned (state_in g t' given' eoi) (marks_of marks' t'.tally.marks) how
+      ≡ turned_by (turn book r (held g)) (marks_of marks t.tally.marks)) →
+      WholeIn (length given₀ / 2) t' → length given' ≡ length given₀ → length marks' ≡ length marks₀ →
+      Between book eoi t₀ given₀ marks₀ order t' given' marks' (done && is_done how) (at + 1)
   unfolding all_done
-  goes_on_lem t counters' flags' fields' given' marks' tally' continued' took whole given_long marks_long done =
+  goes_on_lem how t' given' marks' took whole given_long marks_long =
       record {
         inside = omega arith;
         whole = whole;
@@ -102,7 +96,7 @@ module _
         marks_long = marks_long;
         leads =
             λ g.
-            rw (done, ← (and-true (is_done t)))
-            (sym (pass_on book r rest (held g) (marks_of marks tally.marks) (eqb continued 0) _ (took g)) ∙ (rw split at (i.leads g)));
+            rw (← (and-true (is_done how)))
+            (sym (pass_on book r rest (held g) (marks_of marks t.tally.marks) done _ (took g)) ∙ (rw split at (i.leads g)));
         asks = λ g f. rw (ap (λ (b : Behind). b.state) (took g)) (asks_now g f).1;
       }

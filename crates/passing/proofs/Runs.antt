@@ -1,6 +1,6 @@
 -- The steps of a turn, one by one: what one more of them comes to, that its effect has a place in the tables, and, since neither numbers
 -- nor what is cut off is ever taken back, that there is room for what it gives or cuts off if there is for all of it in the end.
-use Prim.Native.Nat.{ℕ, zero, suc, ◌-◌, ◌/◌, ◌≤◌, ◌<◌}
+use Prim.Native.Nat.{ℕ, zero, suc, ◌+◌, ◌-◌, ◌/◌, ◌≤◌, ◌<◌}
 use mathlib.Core.Path.{◌≡◌, refl, ◌∙◌}
 use mathlib.Core.Bool.{Bool}
 use mathlib.Core.List.{List}
@@ -22,7 +22,8 @@ use Rattle.round.specs.Ticks.{fresh, tick, effect_on}
 use Rattle.round.proofs.Acts.{Right, nothing, mark, put, add, give, give_number, start, stop, suspend, resume, Sorted}
 use Rattle.round.proofs.Sorting.{sorted}
 use Rattle.tables.specs.declared.Tally.{Tally}
-use Rattle.tables.specs.Tables.{state_of, Whole}
+use Rattle.tables.specs.declared.Tables.{Tables}
+use Rattle.tables.specs.Tables.{state_of, state_in, WholeIn}
 use Rattle.tables.proofs.Pairs.{pairs_length}
 use Rattle.ticking.specs.Acts.{act_at}
 use Rattle.ticking.proofs.StepMarks.{act_same}
@@ -133,58 +134,59 @@ lost_held :
 unfolding state_of
 lost_held g counters flags fields given t eoi = refl
 
--- the steps of a turn so far: the tables, with n steps left from position x, lead to what they led to at the start
+-- the steps of a turn so far: the tables, with the steps that are still allowed from position x, lead to what they led to at the start
 pub record Inside
-    (steps : List ℕ) (r : ℕ) (eoi : Bool) (counters₀ : List ℤ) (flags₀ : List Bool) (fields₀ : List ℕ) (given₀ marks₀ : List ℤ)
-    (tally₀ : Tally) (counters : List ℤ) (flags : List Bool) (fields : List ℕ) (given marks : List ℤ) (tally : Tally) (x : Position) (n : ℕ)
+    (steps : List ℕ) (r : ℕ) (eoi : Bool) (t₀ : Tables) (given₀ marks₀ : List ℤ) (t : Tables) (given marks : List ℤ) (x : Position) (taken : ℕ)
     : Type 0 where
-  pub whole : Whole (length given₀ / 2) flags fields tally
+  pub whole : WholeIn (length given₀ / 2) t
   pub given_long : length given ≡ length given₀
   pub marks_long : length marks ≡ length marks₀
   pub leads :
       (g : Game) →
-      run_of n r steps x (state_of g counters flags fields given tally eoi) (marks_of marks tally.marks)
-      ≡ run_of (most_ticks steps) r steps (position_in flags₀ fields₀ r) (state_of g counters₀ flags₀ fields₀ given₀ tally₀ eoi)
-      (marks_of marks₀ tally₀.marks)
+      run_of (most_ticks steps - taken) r steps x (state_in g t given eoi) (marks_of marks t.tally.marks)
+      ≡ run_of (most_ticks steps) r steps (position_in t₀.flags t₀.fields r) (state_in g t₀ given₀ eoi) (marks_of marks₀ t₀.tally.marks)
 
 module _
-    {steps : List ℕ} {r : ℕ} {eoi : Bool} {counters₀ : List ℤ} {flags₀ : List Bool} {fields₀ : List ℕ} {given₀ marks₀ : List ℤ}
-    {tally₀ : Tally} {counters : List ℤ} {flags : List Bool} {fields : List ℕ} {given marks : List ℤ} {tally : Tally} {x : Position} {n : ℕ}
-    (i : Inside steps r eoi counters₀ flags₀ fields₀ given₀ marks₀ tally₀ counters flags fields given marks tally x n) (some : 0 < n) where
+    {steps : List ℕ} {r : ℕ} {eoi : Bool} {t₀ : Tables} {given₀ marks₀ : List ℤ} {t : Tables} {given marks : List ℤ} {x : Position} {taken : ℕ}
+    (i : Inside steps r eoi t₀ given₀ marks₀ t given marks x taken) (more : taken < most_ticks steps) where
   abbrev held : Game → State
-  held g = state_of g counters flags fields given tally eoi
+  held g = state_in g t given eoi
 
   abbrev all : Game → Run
-  all g =
-      run_of (most_ticks steps) r steps (position_in flags₀ fields₀ r) (state_of g counters₀ flags₀ fields₀ given₀ tally₀ eoi)
-      (marks_of marks₀ tally₀.marks)
+  all g = run_of (most_ticks steps) r steps (position_in t₀.flags t₀.fields r) (state_in g t₀ given₀ eoi) (marks_of marks₀ t₀.tally.marks)
 
   -- the next step halts
   pub halts :
       (how : Ending) (y : Position) → ((g : Game) → act_at steps x (held g) ≡ Halts how y) → (g : Game) →
-      runs how y (held g) (marks_of marks tally.marks) ≡ all g
-  halts how y act g = rw (run_halts n r steps x (held g) _ some how y (act g)) at (i.leads g)
+      runs how y (held g) (marks_of marks t.tally.marks) ≡ all g
+  halts how y act g = rw (run_halts (most_ticks steps - taken) r steps x (held g) _ (omega arith) how y (act g)) at (i.leads g)
 
   -- or it goes on
   module _ (q : ℕ) (e : Effect) (act : (g : Game) → act_at steps x (held g) ≡ Goes q e) where
-    pub effect_room : (g : Game) → Roomy (length given₀ / 2) (all g).state → HasRoom (length given₀ / 2) tally e
+    on :
+        (g : Game) (m : Marks) →
+        run_of (most_ticks steps - taken) r steps x (held g) m
+        ≡ run_of (most_ticks steps - taken - 1) r steps (fresh q) (effect_on e (held g)) (marked_by r e m)
+    on g m = run_goes (most_ticks steps - taken) r steps x (held g) m (omega arith) q e (act g)
+
+    pub effect_room : (g : Game) → Roomy (length given₀ / 2) (all g).state → HasRoom (length given₀ / 2) t.tally e
     effect_room g h =
         let room = length given₀ / 2 in
-        let behind = rw (← (i.leads g), run_goes n r steps x (held g) _ some q e (act g)) at h in
-        room_for room e (held g) tally (given_held g counters flags fields given tally eoi (rw i.given_long i.whole.given_fits))
-        (lost_held g counters flags fields given tally eoi) (roomy_run room (n - 1) r steps (fresh q) _ _ behind)
+        let behind = rw (← (i.leads g), on g _) at h in
+        room_for room e (held g) t.tally (given_held g t.counters t.flags t.fields given t.tally eoi (rw i.given_long i.whole.given_fits))
+        (lost_held g t.counters t.flags t.fields given t.tally eoi) (roomy_run room (most_ticks steps - taken - 1) r steps (fresh q) _ _ behind)
 
     pub goes_on_lem :
-        (counters' : List ℤ) (flags' : List Bool) (fields' : List ℕ) (given' marks' : List ℤ) (tally' : Tally) →
-        ((g : Game) (eoi : Bool) →
-        state_of g counters' flags' fields' given' tally' eoi ≡ effect_on e (state_of g counters flags fields given tally eoi)) →
-        marks_of marks' tally'.marks ≡ marked_by r e (marks_of marks tally.marks) → Whole (length given₀ / 2) flags' fields' tally' →
+        (t' : Tables) (given' marks' : List ℤ) →
+        ((g : Game) (eoi : Bool) → state_in g t' given' eoi ≡ effect_on e (state_in g t given eoi)) →
+        marks_of marks' t'.tally.marks ≡ marked_by r e (marks_of marks t.tally.marks) → WholeIn (length given₀ / 2) t' →
         length given' ≡ length given₀ → length marks' ≡ length marks₀ →
-        Inside steps r eoi counters₀ flags₀ fields₀ given₀ marks₀ tally₀ counters' flags' fields' given' marks' tally' (fresh q) (n - 1)
-    goes_on_lem counters' flags' fields' given' marks' tally' state marked whole given_long marks_long =
+        Inside steps r eoi t₀ given₀ marks₀ t' given' marks' (fresh q) (taken + 1)
+    goes_on_lem t' given' marks' state marked whole given_long marks_long =
+        let left : most_ticks steps - (taken + 1) ≡ most_ticks steps - taken - 1 = omega arith in
         record {
           whole = whole;
           given_long = given_long;
           marks_long = marks_long;
-          leads = λ g. rw (state g eoi, marked, ← (run_goes n r steps x (held g) _ some q e (act g))) (i.leads g);
+          leads = λ g. rw (left, state g eoi, marked, ← (on g (marks_of marks t.tally.marks))) (i.leads g);
         }

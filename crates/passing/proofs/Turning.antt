@@ -7,11 +7,11 @@ use mathlib.Core.List.{List}
 use lib.Dec.{eqb}
 use lib.IntN.{ℤ}
 use lib.ListN.{get_or}
+use Rattle.std.specs.Prelude.{Some, None}
 use Rattle.layout.specs.Layout.{most_routines, counts_of}
 use Rattle.directory.specs.Directory.{routine_steps}
 use Rattle.game.specs.declared.Game.{Game}
 use Rattle.game.specs.Game.{continuing, blank, routine_at, with_routine}
-use Rattle.round.specs.declared.Turn.TheVariants.{PassedOver, Took}
 use Rattle.round.specs.State.{State, with_game}
 use Rattle.round.specs.Actions.{position_of}
 use Rattle.round.specs.Rounds.{most_ticks, with_end, behind_turn, ticks_of, turn}
@@ -57,10 +57,10 @@ abbrev pub left_by : ℕ → Run → Behind
 left_by r t =
     let g = t.state.game in
     turned (with_end t.ending r (with_game t.state (with_routine g r (behind_turn (routine_at g r) t.ending t.position)))) t.marks
-    (Took t.ending)
+    (Some t.ending)
 
 module _ (book : List ℕ) (r : ℕ) (s : State) (m : Marks) where
-  pub turn_over : is_passed_over s r ≡ true → turned s m PassedOver ≡ turned_by (turn book r s) m
+  pub turn_over : is_passed_over s r ≡ true → turned s m None ≡ turned_by (turn book r s) m
   unfolding turn marks_in marks_put
   turn_over h = rw h
 

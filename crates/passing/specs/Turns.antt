@@ -1,5 +1,5 @@
 -- The steps of a turn, and a turn, as the code takes them: the definitions' own, with the marks in their buffer in place of the trace.
-use Rattle.std.specs.Prelude.{ℕ, zero, suc, ◌+◌, ◌*◌, ◌≤◌, ◌<◌, ◌≡◌, Bool, false, ◌||◌, not, List, [], ◌∷◌, eqb, length, get_or}
+use Rattle.std.specs.Prelude.{ℕ, zero, suc, ◌+◌, ◌*◌, ◌≤◌, ◌<◌, ◌≡◌, Bool, false, ◌||◌, not, List, [], ◌∷◌, eqb, length, get_or, Option}
 use Rattle.numbers.specs.Numbers.{word_limit}
 use Rattle.kinds.specs.Steps.{step_bytes}
 use Rattle.kinds.specs.declared.Counts.{Counts}
@@ -11,7 +11,6 @@ use Rattle.round.specs.declared.Ending.TheVariants.{Continued}
 use Rattle.round.specs.declared.Position.{Position}
 use Rattle.round.specs.declared.Act.{Act}
 use Rattle.round.specs.declared.Act.TheVariants.{Goes, Halts}
-use Rattle.round.specs.declared.Turn.{Turn}
 use Rattle.round.specs.State.{State, Event}
 use Rattle.round.specs.Ticks.{fresh, effect_on}
 use Rattle.round.specs.Rounds.{PlayedTurns, ticks_of}
@@ -95,10 +94,10 @@ marks_after events m = marks_put (marks_in events) m
 pub record Behind : Type 0 where
   pub state : State
   pub marks : Marks
-  pub turns : List Turn
+  pub turns : List (Option Ending)
 
 -- behind one turn, as the code has it, and behind turns as defined
-abbrev pub turned : State → Marks → Turn → Behind
+abbrev pub turned : State → Marks → Option Ending → Behind
 turned s m t = record { state = s; marks = m; turns = t ∷ [] }
 
 abbrev pub turned_by : PlayedTurns → Marks → Behind

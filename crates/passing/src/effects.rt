@@ -4,94 +4,84 @@ ghost use Rattle.layout.specs.Layout.{most_routines};
 ghost use Rattle.lines.specs.Lines.{most_entries};
 ghost use Rattle.game.specs.declared.Game.{Game};
 ghost use Rattle.round.specs.Ticks.{effect_on};
-ghost use Rattle.tables.specs.Tables.{state_of, Whole};
+ghost use Rattle.tables.specs.Tables.{state_in, WholeIn};
 ghost use Rattle.passing.specs.Effects.{is_starting, started_in, start_count, FitsTables, HasRoom, marks_of, marked_by};
 
 use game::NOT_STARTED;
-use layout::MOST_COUNTERS;
 use lines::MOST_ENTRIES;
 use round::Effect;
-use tables::{
-    FIELDS, FLAGS, RESUMES, STAGES, STOPS, SUSPENDS, Tally, field_at, put_counter, put_flag,
-    put_pair, put_present, put_starting, starting_at,
-};
+use tables::{Field, Flag, Tables, put_pair};
 
 // Whether a routine is one of those to start.
-fn is_to_start(fields: &[u32; FIELDS], count: usize, routine: usize) -> bool
-    requires { count ≤ most_entries }
-    ensures { result ≡ is_starting fields.now count routine }
+fn is_to_start(tables: &Tables, routine: usize) -> bool
+    requires { tables.now.tally.starting ≤ most_entries }
+    ensures { result ≡ is_starting tables.now.fields tables.now.tally.starting routine }
 {
-    let mut at: usize = 0;
-    while at < count {
-        if starting_at(fields, at) == routine {
-            return true;
-        }
-        at += 1;
-    }
-    false
+    (0..tables.tally.starting).any(|at| tables.starting(at) == routine)
 }
 
-// How many are to start, after a start of a routine: one that is not in stage 0, or is already to start, adds nothing.
-fn start(fields: &mut [u32; FIELDS], count: usize, routine: usize) -> usize
-    requires { (count ≤ most_entries) × (routine < most_routines) }
-    ensures value { result ≡ start_count count routine fields.old }
-    ensures fields_after { fields.new ≡ started_in count routine fields.old }
+// A start of a routine: one that is not in stage 0, or is already to start, adds nothing.
+#[tactic(auto, unfolding(crate::specs::Effects::started_in, crate::specs::Effects::start_count))]
+fn start(tables: &mut Tables, routine: usize)
+    requires { (tables.old.tally.starting ≤ most_entries) × (routine < most_routines) }
+    ensures { let t = tables.old in
+        let count = t.tally.starting in
+        tables.new ≡ record t {
+          fields = started_in count routine t.fields;
+          tally = record t.tally { starting = start_count count routine t.fields };
+        } }
 {
-    if field_at(fields, STAGES, routine) != NOT_STARTED as usize {
-        return count;
+    let started = tables.field(Field::Stage, routine) != usize::from(NOT_STARTED);
+    if started || is_to_start(tables, routine) {
+        return;
     }
-    if is_to_start(fields, count, routine) {
-        return count;
-    }
+    let count = tables.tally.starting;
     if count < MOST_ENTRIES {
-        put_starting(fields, count, routine);
-        return count + 1;
+        tables.put_starting(count, routine);
+        tables.tally.starting = count + 1;
     }
-    count
 }
 
-// The tables behind an effect of a step of a routine, and what is counted then.
+// What an effect of a step of a routine does to the tables, to the numbers given and to the marks.
+#[tactic(auto, using(crate::proofs::Held::held), unfolding(round::specs::Ticks::effect_on, crate::specs::Effects::marks_put))]
 pub fn apply(
     effect: Effect,
     routine: usize,
-    before: Tally,
-    counters: &mut [i32; MOST_COUNTERS],
-    flags: &mut [bool; FLAGS],
-    fields: &mut [u32; FIELDS],
+    tables: &mut Tables,
     given: &mut [i32],
     marks: &mut [i32],
-) -> Tally
-    requires whole { Whole (length given.old / 2) flags.old fields.old before }
-    requires fits_tables { (FitsTables effect) × (HasRoom (length given.old / 2) before effect) × (routine < most_routines) }
+)
+    requires whole { WholeIn (length given.old / 2) tables.old }
+    requires fits_tables { (FitsTables effect) × (HasRoom (length given.old / 2) tables.old.tally effect) × (routine < most_routines) }
     ensures eoi_after { (g : Game) (eoi : Bool) →
-        state_of g counters.new flags.new fields.new given.new result eoi
-        ≡ effect_on effect
-        (state_of g counters.old flags.old fields.old given.old before eoi) }
-    ensures whole_2 { Whole (length given.old / 2) flags.new fields.new result }
-    ensures marks_after { marks_of marks.new result.marks ≡ marked_by routine effect (marks_of marks.old before.marks) }
+        state_in g tables.new given.new eoi ≡ effect_on effect (state_in g tables.old given.old eoi) }
+    ensures whole_2 { WholeIn (length given.old / 2) tables.new }
+    ensures marks_after { marks_of marks.new tables.new.tally.marks
+        ≡ marked_by routine effect (marks_of marks.old tables.old.tally.marks) }
 {
-    let mut tally = before;
     match effect {
         Effect::Nothing => {}
-        Effect::Mark(n) => tally.marks = put_pair(marks, before.marks, routine, n),
-        Effect::Put(c, v) => put_counter(counters, c, v),
+        Effect::Mark(n) => {
+            tables.tally.marks = put_pair(marks, tables.tally.marks, routine, n);
+        }
+        Effect::Put(c, v) => tables.put_counter(c, v),
         Effect::Add(c, v) => {
-            put_counter(counters, c, v.sum);
-            tally.lost = before.lost + (v.lost as usize);
+            tables.put_counter(c, v.sum);
+            // Rust has no From<u32> for usize.
+            tables.tally.lost += v.lost as usize;
         }
         Effect::Give(e) => {
-            put_present(flags, e, true);
-            tally.moved = 1;
+            tables.put_present(e, true);
+            tables.tally.moved = true;
         }
         Effect::GiveNumber(e, v) => {
-            put_present(flags, e, true);
-            tally.moved = 1;
-            tally.given = put_pair(given, before.given, e, v);
+            tables.put_present(e, true);
+            tables.tally.moved = true;
+            tables.tally.given = put_pair(given, tables.tally.given, e, v);
         }
-        Effect::Start(r) => tally.starting = start(fields, before.starting, r),
-        Effect::Stop(r) => put_flag(flags, STOPS, r, true),
-        Effect::Suspend(r) => put_flag(flags, SUSPENDS, r, true),
-        Effect::Resume(r) => put_flag(flags, RESUMES, r, true),
+        Effect::Start(r) => start(tables, r),
+        Effect::Stop(r) => tables.put_flag(Flag::Stops, r, true),
+        Effect::Suspend(r) => tables.put_flag(Flag::Suspends, r, true),
+        Effect::Resume(r) => tables.put_flag(Flag::Resumes, r, true),
     }
-    tally
 }

@@ -6,151 +6,93 @@ ghost use Rattle.layout.specs.Layout.{header_bytes, entry_bytes, most_routines};
 ghost use Rattle.directory.specs.Directory.{step_count, routine_from, routine_steps};
 ghost use Rattle.game.specs.Game as stage;
 ghost use Rattle.game.specs.declared.Game.{Game};
-ghost use Rattle.round.specs.declared.Position.{Position};
 ghost use Rattle.round.specs.Rounds.{most_ticks, stage_after, with_end};
 ghost use Rattle.round.specs.Rounds as rounds;
-ghost use Rattle.tables.specs.Tables.{row_at, stages_row, suspended_row, state_of, Whole};
+ghost use Rattle.tables.specs.Tables.{row_at, stages_row, suspended_row, state_in, WholeIn};
 ghost use Rattle.passing.specs.Effects.{marks_of};
 ghost use Rattle.passing.specs.Turns.{runs, run_of, position_in, Roomy, Playable, Ready, TurnAsks, turned, turned_by};
 
 use crate::effects::apply;
 use game::{CONTINUING, ENDED, RESTED};
 use kinds::STEP_BYTES;
-use layout::{ENTRY_BYTES, HEADER_BYTES, MOST_COUNTERS};
+use layout::{ENTRY_BYTES, HEADER_BYTES};
 use numbers::half;
-use round::{Act, Ending, Position, Turn};
-use tables::{
-    BEGUN, ENDS, FIELDS, FLAGS, LEFTS, PLACES, STAGES, SUSPENDED, Tally, field_at, flag_at,
-    put_field, put_flag,
-};
-use ticking::tick;
+use round::{Act, Ending, Position};
+use tables::{Field, Flag, Tables};
+use ticking::{fresh, tick};
 
-// How a turn's steps end, where they leave the routine, and what they have counted.
-#[derive(Clone, Copy)]
-pub struct StepsTaken {
-    pub ending: Ending,
-    pub position: Position,
-    pub tally: Tally,
-}
-
-// What a pass does with a routine, and what is counted then.
-#[derive(Clone, Copy)]
-pub struct Turned {
-    pub turn: Turn,
-    pub tally: Tally,
-}
-
-// Steps that end so, at this position, with so much counted.
-fn halted(ending: Ending, position: Position, tally: Tally) -> StepsTaken
-    ensures { (result.ending ≡ ending) × (result.position ≡ position) × (result.tally ≡ tally) }
-{
-    StepsTaken {
-        ending,
-        position,
-        tally,
-    }
-}
-
-// Where a routine stands while its steps are taken.
-fn position_of(place: usize, begun: bool, left: usize) -> Position
-    ensures { result ≡ record { place = place; begun = begun; left = left } }
-{
-    Position { place, begun, left }
-}
-
-// The steps that a routine takes in a turn.
+// The steps that a routine takes in a turn: how they end, and where they leave the routine.
 fn run(
     steps: &[u8],
     routine: usize,
     eoi: bool,
-    before: Tally,
-    counters: &mut [i32; MOST_COUNTERS],
-    flags: &mut [bool; FLAGS],
-    fields: &mut [u32; FIELDS],
+    tables: &mut Tables,
     given: &mut [i32],
     marks: &mut [i32],
-) -> StepsTaken
-    requires whole { Whole (length given.old / 2) flags.old fields.old before }
+) -> (Ending, Position)
+    requires whole { WholeIn (length given.old / 2) tables.old }
     requires routine_lt_most_routines { (routine < most_routines) × (Playable steps.now) }
     requires roomy { (g : Game) × Roomy (length given.old / 2) (run_of (most_ticks steps.now) routine steps.now
-        (position_in flags.old fields.old routine)
-        (state_of g counters.old flags.old fields.old given.old before eoi) (marks_of marks.old before.marks)).state }
+        (position_in tables.old.flags tables.old.fields routine)
+        (state_in g tables.old given.old eoi) (marks_of marks.old tables.old.tally.marks)).state }
     ensures marks_after { (g : Game) →
-        runs result.ending result.position
-        (state_of g counters.new flags.new fields.new given.new result.tally eoi)
-        (marks_of marks.new result.tally.marks)
+        runs result.0 result.1 (state_in g tables.new given.new eoi) (marks_of marks.new tables.new.tally.marks)
         ≡ run_of (most_ticks steps.now) routine steps.now
-        (position_in flags.old fields.old routine)
-        (state_of g counters.old flags.old fields.old given.old before eoi)
-        (marks_of marks.old before.marks) }
-    ensures whole_2 { Whole (length given.old / 2) flags.new fields.new result.tally }
+        (position_in tables.old.flags tables.old.fields routine)
+        (state_in g tables.old given.old eoi) (marks_of marks.old tables.old.tally.marks) }
+    ensures whole_2 { WholeIn (length given.old / 2) tables.new }
     ensures given_len_unchanged { length given.new ≡ length given.old }
 {
-    let mut tally = before;
-    let mut place = field_at(fields, PLACES, routine);
-    let mut begun = flag_at(flags, BEGUN, routine);
-    let mut left = field_at(fields, LEFTS, routine);
-    let mut ticks = steps.len() / STEP_BYTES + 1;
-    while 0 < ticks {
-        let x = position_of(place, begun, left);
-        let act = tick(steps, x, eoi, tally.given, counters, flags, fields, given);
-        ticks -= 1;
-        begun = false;
-        left = 0;
-        match act {
-            Act::Goes(next, e) => {
-                tally = apply(e, routine, tally, counters, flags, fields, given, marks);
-                place = next;
+    let mut x = Position {
+        place: tables.field(Field::Place, routine),
+        begun: tables.flag(Flag::Begun, routine),
+        left: tables.field(Field::Left, routine),
+    };
+    for _taken in 0..steps.len() / STEP_BYTES + 1 {
+        match tick(steps, x, eoi, tables, given) {
+            Act::Goes(next, effect) => {
+                apply(effect, routine, tables, given, marks);
+                x = fresh(next);
             }
-            Act::Halts(ending, y) => return halted(ending, y, tally),
+            Act::Halts(ending, y) => return (ending, y),
         }
     }
-    halted(Ending::Continued, position_of(place, begun, left), tally)
+    (Ending::Continued, x)
 }
 
-// The stage in which a turn leaves its routine: the status of rule 34.
+// The stage in which a turn leaves its routine: the status of rule 34. It is a number and no enum, as in game::Routine, which C reads.
 fn stage_after(ending: Ending) -> usize
     ensures { (result ≡ stage_after ending) × (result < word_limit) }
 {
-    match ending {
-        Ending::Ended => ENDED as usize,
-        Ending::Rested => RESTED as usize,
-        Ending::Missed => RESTED as usize,
-        Ending::Continued => CONTINUING as usize,
-    }
+    usize::from(match ending {
+        Ending::Ended => ENDED,
+        Ending::Rested | Ending::Missed => RESTED,
+        Ending::Continued => CONTINUING,
+    })
 }
 
-// Rule 34: the end of a routine gives its end signal and is a move.
-fn end_with(ending: Ending, routine: usize, tally: Tally, flags: &mut [bool; FLAGS]) -> Tally
+// Rule 34: the end of a routine gives its end signal and is a move. That the routine is one of most_routines stays a clause, here and in
+// `run`: the number comes from a byte of a list, and a type would be made anew at each turn.
+fn end_with(ending: Ending, routine: usize, tables: &mut Tables)
     requires { routine < most_routines }
-    ensures eoi_after { (g : Game) (counters : List ℤ) (fields : List ℕ) (given : List ℤ) (eoi : Bool) →
-        state_of g counters flags.new fields given result eoi
-        ≡ with_end ending routine (state_of g counters flags.old fields given tally eoi) }
-    ensures flags_len_unchanged { (length flags.new ≡ length flags.old) × (result.starting ≡ tally.starting)
-        × (result.given ≡ tally.given) × (result.marks ≡ tally.marks) }
+    ensures eoi_after { (g : Game) (given : List ℤ) (eoi : Bool) →
+        state_in g tables.new given eoi ≡ with_end ending routine (state_in g tables.old given eoi) }
+    ensures whole { (room : ℕ) → WholeIn room tables.old → WholeIn room tables.new }
+    ensures marks_unchanged { tables.new.tally.marks ≡ tables.old.tally.marks }
 {
-    let mut next = tally;
-    match ending {
-        Ending::Ended => {
-            put_flag(flags, ENDS, routine, true);
-            next.moved = 1;
-        }
-        Ending::Rested => {}
-        Ending::Missed => {}
-        Ending::Continued => {}
+    if matches!(ending, Ending::Ended) {
+        tables.put_flag(Flag::Ends, routine, true);
+        tables.tally.moved = true;
     }
-    next
 }
 
 // Rule 33: a routine that is suspended or not in stage 1 is passed over.
-fn is_passed_over(flags: &[bool; FLAGS], fields: &[u32; FIELDS], routine: usize) -> bool
-    ensures { result ≡ (get_or (row_at suspended_row flags.now) routine false
-        || not (eqb (get_or (row_at stages_row fields.now) routine 0) stage.continuing)) }
+fn is_passed_over(tables: &Tables, routine: usize) -> bool
+    ensures { result ≡ (get_or (row_at suspended_row tables.now.flags) routine false
+        || not (eqb (get_or (row_at stages_row tables.now.fields) routine 0) stage.continuing)) }
 {
-    if flag_at(flags, SUSPENDED, routine) {
-        return true;
-    }
-    field_at(fields, STAGES, routine) != CONTINUING as usize
+    tables.flag(Flag::Suspended, routine)
+        || tables.field(Field::Stage, routine) != usize::from(CONTINUING)
 }
 
 // The steps of a routine of an accepted book, where its entry says: the book is not tested again.
@@ -166,50 +108,34 @@ fn steps_of(book: &[u8], routine: usize) -> &[u8]
     &book[from..to]
 }
 
-// What a pass does with a listed routine: it is passed over, or takes its steps and is left where they halt.
+// What a pass does with a listed routine: it is passed over, which answers None, or takes its steps and is left where they halt.
 pub fn turn(
     book: &[u8],
     routine: usize,
     eoi: bool,
-    before: Tally,
-    counters: &mut [i32; MOST_COUNTERS],
-    flags: &mut [bool; FLAGS],
-    fields: &mut [u32; FIELDS],
+    tables: &mut Tables,
     given: &mut [i32],
     marks: &mut [i32],
-) -> Turned
-    requires whole { Whole (length given.old / 2) flags.old fields.old before }
+) -> Option<Ending>
+    requires whole { WholeIn (length given.old / 2) tables.old }
     requires ready { Ready book.now routine }
-    requires turn_asks { (g : Game) × TurnAsks (length given.old / 2) book.now routine
-        (state_of g counters.old flags.old fields.old given.old before eoi) }
+    requires turn_asks { (g : Game) × TurnAsks (length given.old / 2) book.now routine (state_in g tables.old given.old eoi) }
     ensures turn_after { (g : Game) →
-        turned (state_of g counters.new flags.new fields.new given.new result.tally eoi)
-        (marks_of marks.new result.tally.marks) result.turn
-        ≡ turned_by (rounds.turn book.now routine
-        (state_of g counters.old flags.old fields.old given.old before eoi))
-        (marks_of marks.old before.marks) }
-    ensures whole_2 { Whole (length given.old / 2) flags.new fields.new result.tally }
+        turned (state_in g tables.new given.new eoi) (marks_of marks.new tables.new.tally.marks) result
+        ≡ turned_by (rounds.turn book.now routine (state_in g tables.old given.old eoi))
+        (marks_of marks.old tables.old.tally.marks) }
+    ensures whole_2 { WholeIn (length given.old / 2) tables.new }
     ensures given_len_unchanged { length given.new ≡ length given.old }
 {
-    if is_passed_over(flags, fields, routine) {
-        return Turned {
-            turn: Turn::PassedOver,
-            tally: before,
-        };
+    if is_passed_over(tables, routine) {
+        return None;
     }
     let steps = steps_of(book, routine);
-    let t = run(
-        steps, routine, eoi, before, counters, flags, fields, given, marks,
-    );
-    let y = t.position;
-    let ending = t.ending;
-    put_field(fields, PLACES, routine, y.place);
-    put_field(fields, LEFTS, routine, y.left);
-    put_field(fields, STAGES, routine, stage_after(ending));
-    put_flag(flags, BEGUN, routine, y.begun);
-    let tally = end_with(ending, routine, t.tally, flags);
-    Turned {
-        turn: Turn::Took(ending),
-        tally,
-    }
+    let (ending, y) = run(steps, routine, eoi, tables, given, marks);
+    tables.put_field(Field::Place, routine, y.place);
+    tables.put_field(Field::Left, routine, y.left);
+    tables.put_field(Field::Stage, routine, stage_after(ending));
+    tables.put_flag(Flag::Begun, routine, y.begun);
+    end_with(ending, routine, tables);
+    Some(ending)
 }

@@ -1,17 +1,21 @@
 #![tactic(auto)]
 // The listing of a whole play: what the program `rounds` prints for a book. Document 01, "Set plays".
-ghost use Rattle.std.specs.Prelude.{◌≡◌, take};
+ghost use Rattle.std.specs.Prelude.{◌≡◌, eqb, get_or, take};
+ghost use Rattle.std.specs.List.{list_all};
+ghost use Rattle.game.specs.Game.{ended, blank};
 ghost use Rattle.texts.specs.Texts.{filled, with_text};
+ghost use Rattle.texts.specs.Held.{Puts};
 ghost use Rattle.plays.specs.Plays.{is_over};
 ghost use Rattle.play_listing.specs.Printed.{next_answer, lines_of, lines_from, most_rounds, printed};
 
-use game::{ENDED, Game, blank_game};
+use game::{ENDED, Game, Routine, blank_game};
 use kinds::STEP_BYTES;
 use layout::{ENTRY_BYTES, HEADER_BYTES, MOST_ROUTINES, MOST_STEPS};
 use lines::used;
 use listing::{LONGEST_MARK_LINE, LONGEST_ROUND_LINE, NUMBERS_PER_MARK, put_refusal, put_round};
 use playing::play;
 use setup::set_up;
+use texts::Text;
 
 // "at most 100 rounds"
 const MOST_ROUNDS: usize = 100;
@@ -28,80 +32,71 @@ pub const LONGEST_BOOK: usize = HEADER_BYTES
 pub const LONGEST_LISTING: usize = MOST_ROUNDS
     * (LONGEST_ROUND_LINE + LONGEST_MARK_LINE * MOST_STEPS);
 
-// A play behind a round: its game, and how many bytes of the buffer are used.
-#[derive(Clone, Copy)]
-struct After {
-    game: Game,
-    used: usize,
+// Whether a routine has ended. One past the arrays has not.
+fn has_ended(routines: &[Routine; MOST_ROUTINES], routine: u8) -> bool
+    ensures { result ≡ eqb (get_or routines.now routine blank).stage ended }
+{
+    match routines.get(usize::from(routine)) {
+        Some(there) => there.stage == ENDED,
+        None => false,
+    }
+}
+
+// Whether all that are listed have.
+fn have_ended(routines: &[Routine; MOST_ROUTINES], listed: &[u8]) -> bool
+    ensures { result ≡ list_all (λ r. eqb (get_or routines.now r blank).stage ended) listed.now }
+{
+    listed.iter().all(|routine| has_ended(routines, *routine))
 }
 
 // Whether a play is over: "every listed routine has ended with none to start".
 pub fn is_over(game: Game) -> bool
     ensures { result ≡ is_over game }
 {
-    if used(game.starting) != 0 {
-        return false;
-    }
-    let listed = game.listed;
-    let routines = game.routines;
-    let all = used(listed);
-    let mut at: usize = 0;
-    while at < all {
-        let routine = listed.items[at] as usize;
-        if MOST_ROUTINES <= routine {
-            return false;
-        }
-        if routines[routine].stage != ENDED {
-            return false;
-        }
-        at += 1;
-    }
-    true
+    let all = used(game.listed);
+    used(game.starting) == 0 && have_ended(&game.routines, &game.listed.items[..all])
 }
 
-// Plays the next round, which has this number, and lists it behind what is used.
-fn list_round(book: &[u8], game: Game, number: usize, out: &mut [u8], used: usize) -> After
-    ensures { (result.game ≡ (next_answer book.now game).game)
-        × (filled out.new result.used
-        ≡ with_text (filled out.old used) (lines_of number (next_answer book.now game))) }
+// Plays the next round, which has this number, and puts its lines behind what is there. Answers the game behind it.
+fn list_round(book: &[u8], game: Game, number: usize, text: &mut Text) -> Game
+    ensures { (result ≡ (next_answer book.now game).game)
+        × Puts text.old (lines_of number (next_answer book.now game)) text.new }
 {
     let mut marks = [0i32; MOST_NUMBERS];
     let played = play(book, game, &mut marks);
     let end = NUMBERS_PER_MARK * played.marks;
-    let used = put_round(out, used, number, played.passes, &marks[..end]);
-    let next = played.game;
-    After { game: next, used }
+    put_round(text, number, played.passes, &marks[..end]);
+    played.game
 }
 
 // Plays and lists rounds until the play is over.
-fn list_rounds(book: &[u8], game: Game, out: &mut [u8]) -> usize
-    ensures { filled out.new result
-        ≡ with_text (filled out.old 0) (lines_from book.now most_rounds 1 game) }
+fn list_rounds(book: &[u8], game: Game, text: &mut Text)
+    ensures { Puts text.old (lines_from book.now most_rounds 1 game) text.new }
 {
-    let mut play = After { game, used: 0 };
-    let mut number: usize = 1;
-    while number <= MOST_ROUNDS {
-        let game = play.game;
+    let mut game = game;
+    for number in 1..=MOST_ROUNDS {
         if is_over(game) {
-            return play.used;
+            return;
         }
-        play = list_round(book, game, number, out, play.used);
-        number += 1;
+        game = list_round(book, game, number, text);
     }
-    play.used
 }
 
 // Lists a play of a book, or its refusal, and answers how many bytes of the buffer are used: one more than it has where not all fit.
+// No Option: the README and the clause say that number.
 pub fn list_play(book: &[u8], out: &mut [u8]) -> usize
     ensures { filled out.new result ≡ with_text (filled out.old 0) (printed book.now) }
 {
     let outcome = set_up(book, blank_game());
     let verdict = outcome.verdict;
+    let mut text = Text { out, used: 0 };
+    // By its number: `set_up` answers C's Outcome, which is no Result.
     if verdict.number != 0 {
-        return put_refusal(out, 0, verdict);
+        put_refusal(&mut text, verdict);
+        return text.used;
     }
-    let game = outcome.game;
-    list_rounds(book, game, out)
+    list_rounds(book, outcome.game, &mut text);
+    text.used
 }
 
 // The same in a buffer that no listing is too long for: as many of its first bytes as are answered are the whole of it.

@@ -6,12 +6,11 @@ use mathlib.Core.Path.{◌≡◌, refl, ap}
 use mathlib.Core.Bool.{false, not}
 use mathlib.Core.List.{List, [], ◌∷◌}
 use native.Mathlib.Omega.{arith}
+use Rattle.std.specs.Prelude.{Option, Some}
 use Rattle.numbers.specs.Numbers.{word_limit}
 use Rattle.numbers.specs.Counting.{All}
 use Rattle.numbers.proofs.Tests.{by_flag, clash}
 use Rattle.kinds.specs.declared.Kind.{Kind}
-use Rattle.kinds.specs.declared.Step.{Step}
-use Rattle.kinds.specs.declared.Step.TheVariants as step
 use Rattle.kinds.proofs.Readable.{step_below}
 use Rattle.kinds.proofs.Rows.{kind_at_lem}
 use Rattle.forms.specs.Timed.{Timed, rest_for, wait_for, join_for}
@@ -39,7 +38,7 @@ use Rattle.passing.specs.Turns.{Roomy, PositionFits, Ready, is_passed_over}
 use Rattle.passing.specs.Passes.{PassAsks, PassesAsk}
 
 -- the n of a timed step
-timed_within : {st : Step} {n : ℕ} → Timed st n → ((k : Kind) → st ≡ step.Kind k → Within k) → n < word_limit
+timed_within : {st : Option Kind} {n : ℕ} → Timed st n → ((k : Kind) → st ≡ Some k → Within k) → n < word_limit
 timed_within rest_for within = within _ refl
 timed_within wait_for within = (within _ refl).1
 timed_within join_for within = (within _ refl).1
@@ -71,7 +70,7 @@ module _ (book : List ℕ) (a : Accepted book) where
           counted = refl;
         }
 
-    step_within_lem : (p : ℕ) (k : Kind) → routine_step book r p ≡ step.Kind k → Within k
+    step_within_lem : (p : ℕ) (k : Kind) → routine_step book r p ≡ Some k → Within k
     step_within_lem p k e =
         let steps = routine_steps book r in
         let inside = step_below (counts_of book) steps p e in

@@ -2,7 +2,6 @@
 -- definition's; the mark buffer is long enough for the marks, of which there are no more than the book has mark steps.
 use Prim.Native.Nat.{ℕ, ◌≤◌, ◌<◌}
 use mathlib.Core.Path.{◌≡◌, sym, ap, ◌∙◌}
-use mathlib.Core.Bool.{Bool}
 use mathlib.Core.List.{List}
 use native.Mathlib.Omega.{arith}
 use lib.IntN.{ℤ}
@@ -24,8 +23,8 @@ use Rattle.round.specs.Rounds.{round, trace_of}
 use Rattle.round.specs.Answers.{marks_in, space_for, played_out}
 use Rattle.round.proofs.After.{round_fits}
 use Rattle.round.proofs.Once.{completed_once}
-use Rattle.tables.specs.declared.Tally.{Tally}
-use Rattle.tables.specs.Tables.{routine_in, state_of}
+use Rattle.tables.specs.declared.Tables.{Tables}
+use Rattle.tables.specs.Tables.{routine_in, state_of, state_in}
 use Rattle.numbers.proofs.Lists.{below_read}
 use Rattle.passing.specs.Effects.{Marks}
 use Rattle.opening.specs.Games.{HoldsGame, game_of}
@@ -34,18 +33,18 @@ use Rattle.playing.specs.Playing.{PassesDone, answered}
 use Rattle.playing.proofs.Marking.{marks_front}
 
 module _
-    (book : List ℕ) (g : Game) (a : Accepted book) (f : Fits book g) {counters : List ℤ} {flags : List Bool} {fields : List ℕ}
-    {tally : Tally} {passes : ℕ} {before after : List ℤ} (d : PassesDone book g counters flags fields tally passes before after)
+    (book : List ℕ) (g : Game) (a : Accepted book) (f : Fits book g) {t : Tables} {passes : ℕ} {before after : List ℤ}
+    (d : PassesDone book g t passes before after)
   where
     abbrev held : State
-    held = state_of (at_start g).game counters flags fields d.given tally d.eoi
+    held = state_in (at_start g).game t d.given d.eoi
 
     held_fits : Fits book held.game
     held_fits = rw d.holds (round_fits book a g f)
 
-    held_routine : (i : ℕ) → i < most_routines → routine_at held.game i ≡ routine_in flags fields i
+    held_routine : (i : ℕ) → i < most_routines → routine_at held.game i ≡ routine_in t.flags t.fields i
     unfolding state_of
-    held_routine i h = below_read most_routines (routine_in flags fields) i blank h
+    held_routine i h = below_read most_routines (routine_in t.flags t.fields) i blank h
 
     -- a routine of the game
     module _ (i : ℕ) (h : i < g.counts.routines) where
@@ -58,7 +57,7 @@ module _
       few_places : step_count book i < half_limit
       few_places = omega (arith, routine_within book a i of_book, a.laid.counts.few_steps)
 
-    pub holds_game : HoldsGame g.counts.routines g.routines flags fields tally.starting
+    pub holds_game : HoldsGame g.counts.routines g.routines t
     unfolding state_of
     holds_game =
         record {
@@ -81,22 +80,22 @@ module _
 
     game_held :
         (order : Line) → order ≡ (at_start g).game.listed →
-        game_of g.counts order counters flags fields tally.starting ≡ (round book g).played.state.game
+        game_of g.counts order t ≡ (round book g).played.state.game
     unfolding state_of at_start
     game_held order e = rw e (ap (λ (s : State). s.game) d.holds)
 
-    lost_held : tally.lost ≡ (round book g).played.state.lost
+    lost_held : t.tally.lost ≡ (round book g).played.state.lost
     unfolding state_of
     lost_held = ap (λ (s : State). s.lost) d.holds
 
     -- the answer of the round
     pub finished :
         (order : Line) (v : Verdict) (next : Game) → order ≡ (at_start g).game.listed → v ≡ accepted →
-        next ≡ game_of g.counts order counters flags fields tally.starting → space_for book ≤ length before →
-        answered (record { verdict = v; game = next; passes = passes; marks = tally.marks; lost = tally.lost }) after
+        next ≡ game_of g.counts order t → space_for book ≤ length before →
+        answered (record { verdict = v; game = next; passes = passes; marks = t.tally.marks; lost = t.tally.lost }) after
         ≡ played_out accepted (round book g) before
     finished order v next listed right is space =
         let marks = marks_in (trace_of book g) in
         let m = d.marked ∙ marks_front marks before (omega (arith, space, (completed_once book a g f).space)) in
-        let count : tally.marks ≡ length marks = ap (λ (k : Marks). k.count) m in
+        let count : t.tally.marks ≡ length marks = ap (λ (k : Marks). k.count) m in
         rw (right, is, game_held order listed, d.passed, ap (λ (k : Marks). k.buffer) m, count, lost_held)

@@ -21,11 +21,12 @@ use Rattle.round.proofs.StartSound.{listed_below, at_start_sound}
 use Rattle.round.proofs.Once.{numbers_kept}
 use Rattle.round.proofs.Lost.{lost_few}
 use Rattle.tables.specs.declared.Tally.{Tally}
-use Rattle.tables.specs.Tables.{state_of, Whole}
+use Rattle.tables.specs.declared.Tables.{Tables}
+use Rattle.tables.specs.Tables.{state_in, WholeIn}
 use Rattle.passing.specs.Effects.{marks_of}
 use Rattle.passing.specs.Turns.{Roomy, Ready}
 use Rattle.passing.specs.Passes.{PassesAsk, AfterPasses, passes, passes_by}
-use Rattle.opening.specs.Games.{no_tally, Opened}
+use Rattle.opening.specs.Games.{Opened}
 use Rattle.playing.specs.Playing.{PassesDone}
 use Rattle.playing.proofs.Asking as asking
 
@@ -35,8 +36,7 @@ used_below l i h =
     (λ t m. omega (arith, h, ltb-false l.len most_entries t))
 
 module _
-    {book : List ℕ} {g : Game} {order : Line} {counters : List ℤ} {flags : List Bool} {fields : List ℕ}
-    (opened : Opened book g order counters flags fields)
+    {book : List ℕ} {g : Game} {order : Line} {t : Tables} (opened : Opened book g order t)
   where
     all_ready : (i : ℕ) → i < used_of order → Ready book (item_at order i)
     all_ready i h =
@@ -44,18 +44,20 @@ module _
         let inside = used_below (at_start g).game.listed i fits.lengths_in_range.0 (rw opened.listed at h) in
         rw opened.listed (asking.ready book opened.accepted _ (fits.entries_in_range.0 i inside))
 
-    at_first : (room : ℕ) → Whole room flags fields no_tally
+    at_first : (room : ℕ) → WholeIn room t
     at_first room =
+        let starting = ap (λ (n : Tally). n.starting) opened.uncounted in
+        let given = ap (λ (n : Tally). n.given) opened.uncounted in
         record {
           flags_long = opened.flags_long;
           fields_long = opened.fields_long;
-          starting_fits = omega arith;
-          given_fits = omega arith;
+          starting_fits = omega (arith, starting);
+          given_fits = omega (arith, given);
         }
 
     roomy :
         (room : ℕ) → steps_of book ≤ room → (given : List ℤ) →
-        PassesAsk room book most_passes (entries_of order) (state_of (at_start g).game counters flags fields given no_tally false)
+        PassesAsk room book most_passes (entries_of order) (state_in (at_start g).game t given false)
     unfolding round
     roomy room few given =
         let a = opened.accepted in
@@ -66,26 +68,24 @@ module _
         rw (opened.holds given, opened.listed)
         (asking.passes_ask book a room (listed_in g) (listed_below start) most_passes (at_start g) start enough)
 
-    -- what the passes ask, with room for a number a step and nothing counted before them
+    -- what the passes ask, with room for a number a step
     pub passes_asked :
-        (room : ℕ) → steps_of book ≤ room → (given : List ℤ) (none : Tally) → none ≡ no_tally →
-        Whole room flags fields none
+        (room : ℕ) → steps_of book ≤ room → (given : List ℤ) →
+        WholeIn room t
         × (((i : ℕ) → i < used_of order → Ready book (item_at order i))
-        × ((q : Game) × PassesAsk room book most_passes (entries_of order) (state_of q counters flags fields given none false)))
-    passes_asked room few given none e = rw e (at_first room, (all_ready, ((at_start g).game, roomy room few given)))
+        × ((q : Game) × PassesAsk room book most_passes (entries_of order) (state_in q t given false)))
+    passes_asked room few given = (at_first room, (all_ready, ((at_start g).game, roomy room few given)))
 
     -- what they leave
     pub passes_done :
-        (room : ℕ) (given given' counters' : List ℤ) (flags' : List Bool) (fields' : List ℕ) (none tally : Tally) (eoi : Bool) (k : ℕ)
-        (marks marks' : List ℤ) → none ≡ no_tally →
+        (room : ℕ) (given given' : List ℤ) (after : Tables) (eoi : Bool) (k : ℕ) (marks marks' : List ℤ) →
         ((q : Game) →
-        passes (state_of q counters' flags' fields' given' tally eoi) (marks_of marks' tally.marks) k
-        ≡ passes_by (instant book most_passes (entries_of order) (state_of q counters flags fields given none false))
-        (marks_of marks none.marks) 0) →
-        Whole room flags' fields' tally → PassesDone book g counters' flags' fields' tally k marks marks'
+        passes (state_in q after given' eoi) (marks_of marks' after.tally.marks) k
+        ≡ passes_by (instant book most_passes (entries_of order) (state_in q t given false)) (marks_of marks t.tally.marks) 0) →
+        WholeIn room after → PassesDone book g after k marks marks'
     unfolding round
-    passes_done room given given' counters' flags' fields' none tally eoi k marks marks' e h whole =
-        let same = rw (e, opened.holds given, opened.listed) at (h (at_start g).game) in
+    passes_done room given given' after eoi k marks marks' h whole =
+        let same = rw (opened.holds given, opened.listed, ap (λ (n : Tally). n.marks) opened.uncounted) at (h (at_start g).game) in
         record {
           given = given';
           eoi = eoi;

@@ -4,23 +4,21 @@ use Rattle.game.specs.declared.Game.{Game}
 use Rattle.round.specs.Actions.{at_start}
 use Rattle.round.specs.Rounds.{round}
 use Rattle.round.specs.Answers.{Answer}
-use Rattle.tables.specs.declared.Tally.{Tally}
-use Rattle.tables.specs.Tables.{field_count, state_of}
+use Rattle.tables.specs.declared.Tables.{Tables}
+use Rattle.tables.specs.Tables.{field_count, state_in}
 use Rattle.passing.specs.Effects.{marks_of}
 use Rattle.passing.specs.Turns.{marks_after}
 use Rattle.playing.specs.declared.Played.{Played}
 
 -- the passes of a round from game g are done: the tables hold the state behind them, so many passes were made, and the marks lie in the
 -- buffer that was `before`
-pub record PassesDone
-    (book : List ℕ) (g : Game) (counters : List ℤ) (flags : List Bool) (fields : List ℕ) (tally : Tally) (passes : ℕ)
-    (before after : List ℤ) : Type 0 where
+pub record PassesDone (book : List ℕ) (g : Game) (t : Tables) (passes : ℕ) (before after : List ℤ) : Type 0 where
   pub given : List ℤ
   pub eoi : Bool
-  pub holds : state_of (at_start g).game counters flags fields given tally eoi ≡ (round book g).played.state
-  pub marked : marks_of after tally.marks ≡ marks_after (round book g).played.trace (marks_of before 0)
+  pub holds : state_in (at_start g).game t given eoi ≡ (round book g).played.state
+  pub marked : marks_of after t.tally.marks ≡ marks_after (round book g).played.trace (marks_of before 0)
   pub passed : passes ≡ (round book g).passes
-  pub fields_long : length fields ≡ field_count
+  pub fields_long : length t.fields ≡ field_count
 
 -- the answer of the call, with the buffer that it leaves
 abbrev pub answered : Played → List ℤ → Answer

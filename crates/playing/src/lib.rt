@@ -1,9 +1,8 @@
 #![tactic(auto)]
 // Playing a round: the fifth call.
-ghost use Rattle.std.specs.Prelude.{◌≡◌, List, ◌≤◌, length, eqb, ℤ, if◌then◌else◌};
-ghost use Rattle.kinds.specs.Ops.{op_mark};
+ghost use Rattle.std.specs.Prelude.{◌≡◌, List, ◌≤◌, ◌/◌, length, ℤ, OnOk, IfErr};
 ghost use Rattle.layout.specs.Layout.{steps_of, most_steps};
-ghost use Rattle.verdicts.specs.Verdicts.{accepted};
+ghost use Rattle.verdicts.specs.Verdicts.{accepted, told};
 ghost use Rattle.book.specs.Book.{steps_part};
 ghost use Rattle.book.specs.Accepted.{Accepted};
 ghost use Rattle.fitting.specs.Fits.{Fits};
@@ -12,28 +11,25 @@ ghost use Rattle.round.specs.Answers as answers;
 ghost use Rattle.round.specs.claims.Demand.{Demand3};
 ghost use Rattle.game.specs.declared.Game.{Game};
 ghost use Rattle.rules.specs.Claims.{ByTheRules};
-ghost use Rattle.opening.specs.Games.{no_tally, Opened};
+ghost use Rattle.opening.specs.Games.{Opened};
 ghost use Rattle.playing.specs.Playing.{PassesDone, answered};
 
 use fitting::fits;
 use game::Game;
 use kinds::STEP_BYTES;
-use layout::{MOST_COUNTERS, MOST_STEPS, steps, steps_from};
+use layout::{MOST_STEPS, steps, steps_from};
 use lines::Line;
 use opening::{finish, open, take};
-use passing::{Passes, all_passes};
+use passing::all_passes;
 use reading::read_book;
-use tables::{FIELDS, FLAGS, Tally};
-use verdicts::{UNFIT, Verdict, as_verdict, verdict_of};
+use tables::{FIELDS, FLAGS, Tables, Tally};
+use verdicts::{Refusal, Verdict, as_verdict};
 
-// "0 mark"
+// "0 mark". A byte and no enum: steps are counted by their first byte, as the definition `mark_steps` has it, and none is decoded.
 const OP_MARK: u8 = 0;
 
 // Two numbers to a mark, and to a number given with its signal.
 pub const NUMBERS_PER_PAIR: usize = 2;
-
-// The number of the refusal for want of room for the marks.
-pub const SHORT_BUFFER: u32 = 10;
 
 // A step gives at most one number in a round, so a book of few steps needs but a small buffer for them.
 const FEW_STEPS: usize = 64;
@@ -47,6 +43,7 @@ const SOME_NUMBERS: usize = NUMBERS_PER_PAIR * SOME_STEPS;
 const MANY_NUMBERS: usize = NUMBERS_PER_PAIR * MOST_STEPS;
 
 // What playing a round answers: the verdict, the game, the passes, the count of marks, and how much its additions cut off.
+// It has the verdict beside the game, and is no Result: play_c hands it to C.
 #[repr(C)]
 #[derive(Clone, Copy)]
 pub struct Played {
@@ -57,93 +54,64 @@ pub struct Played {
     pub lost: usize,
 }
 
-// Nothing is counted yet.
-fn no_tally() -> Tally
-    ensures { result ≡ no_tally }
+// The passes of a round, and how many they are, with a buffer of this length for the numbers given: two for each.
+fn passes_with<const N: usize>(
+    book: &[u8],
+    order: Line,
+    tables: &mut Tables,
+    marks: &mut [i32],
+) -> usize
+    requires room { (steps_of book.now ≤ N / 2) × (N / 2 ≤ most_steps) }
+    requires opened { (g : Game) × Opened book.now g order tables.old }
+    ensures { (g : Game) → Opened book.now g order tables.old → PassesDone book.now g tables.new result marks.old marks.new }
 {
-    Tally {
-        starting: 0,
-        given: 0,
-        marks: 0,
-        lost: 0,
-        moved: 0,
-    }
+    let mut given = [0i32; N];
+    all_passes(book, order, tables, &mut given, marks)
 }
 
 // The passes of a round, with room for at least as many numbers as the book has steps.
-fn play_out(
-    book: &[u8],
-    order: Line,
-    counters: &mut [i32; MOST_COUNTERS],
-    flags: &mut [bool; FLAGS],
-    fields: &mut [u32; FIELDS],
-    marks: &mut [i32],
-) -> Passes
-    requires { (g : Game) × Opened book.now g order counters.old flags.old fields.old }
-    ensures { (g : Game) → Opened book.now g order counters.old flags.old fields.old →
-        PassesDone book.now g counters.new flags.new fields.new result.tally result.passes
-        marks.old marks.new }
+fn play_out(book: &[u8], order: Line, tables: &mut Tables, marks: &mut [i32]) -> usize
+    requires { (g : Game) × Opened book.now g order tables.old }
+    ensures { (g : Game) → Opened book.now g order tables.old → PassesDone book.now g tables.new result marks.old marks.new }
 {
-    let none = no_tally();
     let all = steps(book);
     if all <= FEW_STEPS {
-        let mut few = [0i32; FEW_NUMBERS];
-        return all_passes(book, order, none, counters, flags, fields, &mut few, marks);
+        passes_with::<FEW_NUMBERS>(book, order, tables, marks)
+    } else if all <= SOME_STEPS {
+        passes_with::<SOME_NUMBERS>(book, order, tables, marks)
+    } else {
+        passes_with::<MANY_NUMBERS>(book, order, tables, marks)
     }
-    if all <= SOME_STEPS {
-        let mut some = [0i32; SOME_NUMBERS];
-        return all_passes(book, order, none, counters, flags, fields, &mut some, marks);
-    }
-    let mut many = [0i32; MANY_NUMBERS];
-    all_passes(book, order, none, counters, flags, fields, &mut many, marks)
 }
 
-// A round on a game that fits an accepted book, with room for its marks: the round without the checks.
+// A round on a game that fits an accepted book, with room for its marks: the round without the checks. What it asks for stays a
+// clause: `zulqenat_round` takes book and game by value and asks for the same.
 pub fn round(book: &[u8], game: Game, marks: &mut [i32]) -> Played
     requires { Accepted book.now × Fits book.now game × (answers.space_for book.now ≤ length marks.old) }
     ensures { answered result marks.new
         ≡ answers.played_out accepted (rounds.round book.now game) marks.old }
 {
-    let mut flags = [false; FLAGS];
-    let mut fields = [0u32; FIELDS];
-    let counts = game.counts;
-    let routines = game.routines;
-    let all = counts.routines;
-    let mut at: usize = 0;
-    while at < all {
-        let routine = routines[at];
-        take(routine, at, &mut flags, &mut fields);
-        at += 1;
-    }
-    let mut counters = game.counters;
-    let listed = game.listed;
-    let starting = game.starting;
-    let signals = game.broadcast;
-    let order = open(listed, starting, signals, &mut flags, &mut fields);
-    let p = play_out(book, order, &mut counters, &mut flags, &mut fields, marks);
-    let next = finish(
-        counts,
-        routines,
-        order,
+    // A variable of its own: a field that is an array put straight into a literal gets no proof.
+    let counters = game.counters;
+    let mut tables = Tables {
+        flags: [false; FLAGS],
+        fields: [0; FIELDS],
         counters,
-        p.tally.starting,
-        &flags,
-        &fields,
-    );
+        tally: Tally::default(),
+    };
+    let routines = game.routines;
+    for (at, &routine) in routines[..game.counts.routines].iter().enumerate() {
+        take(routine, at, &mut tables);
+    }
+    let order = open(game.listed, game.starting, game.broadcast, &mut tables);
+    let passes = play_out(book, order, &mut tables, marks);
     Played {
         verdict: as_verdict(0, 0),
-        game: next,
-        passes: p.passes,
-        marks: p.tally.marks,
-        lost: p.tally.lost,
+        game: finish(game.counts, routines, order, &tables),
+        passes,
+        marks: tables.tally.marks,
+        lost: tables.tally.lost,
     }
-}
-
-// One for a mark step, by its op, and none for any other.
-fn mark_at(op: u8) -> usize
-    ensures { (result ≡ (if eqb op op_mark then 1 else 0)) × (result ≤ 1) }
-{
-    if op == OP_MARK { 1 } else { 0 }
 }
 
 // How many mark steps a book has.
@@ -151,15 +119,10 @@ pub fn mark_steps(book: &[u8]) -> usize
     requires { Accepted book.now }
     ensures { (result ≡ answers.mark_steps (steps_part book.now) (steps_of book.now)) × (result ≤ most_steps) }
 {
-    let first = steps_from(book);
-    let all = steps(book);
-    let mut count: usize = 0;
-    let mut at: usize = 0;
-    while at < all {
-        count += mark_at(book[first + at * STEP_BYTES]);
-        at += 1;
-    }
-    count
+    book[steps_from(book)..]
+        .chunks_exact(STEP_BYTES)
+        .filter(|step| matches!(step, [OP_MARK, ..]))
+        .count()
 }
 
 // "After a refusal game and mark buffer are as lent, and passes and count of marks are 0." Document 02: "A refused round reports
@@ -176,8 +139,25 @@ fn turned_down(verdict: Verdict, game: Game) -> Played
     }
 }
 
-// Plays a round: "a round checks 1 to 7, then 9, 10, 11". A refusal hands game and mark buffer back as lent. 11 is never told: no round
-// gives more numbers than its book has steps.
+// The first refusal that turns a round down: "a round checks 1 to 7, then 9, 10, 11". 11 is never told: no round gives more numbers than
+// its book has steps.
+fn check(book: &[u8], game: Game, marks: &[i32]) -> Result<(), Refusal>
+    ensures refusal { IfErr result
+        (λ refusal. answers.turned_down (told refusal) game marks.now ≡ answers.answer book.now game marks.now) }
+    ensures passed { OnOk result
+        (Accepted book.now × Fits book.now game × (answers.space_for book.now ≤ length marks.now)) }
+{
+    read_book(book)?;
+    if !fits(book, game) {
+        return Err(Refusal::Unfit);
+    }
+    if marks.len() < NUMBERS_PER_PAIR * mark_steps(book) {
+        return Err(Refusal::ShortMarks);
+    }
+    Ok(())
+}
+
+// Plays a round. A refusal hands game and mark buffer back as lent.
 pub fn play(book: &[u8], game: Game, marks: &mut [i32]) -> Played
     ensures marks_after { answered result marks.new ≡ answers.answer book.now game marks.old }
     ensures lost_le_most_lost { result.lost ≤ answers.most_lost }
@@ -185,15 +165,8 @@ pub fn play(book: &[u8], game: Game, marks: &mut [i32]) -> Played
     ensures by_the_rules { result.verdict ≡ accepted →
         ByTheRules book.now game marks.old (answered result marks.new) }
 {
-    let verdict = verdict_of(read_book(book));
-    if verdict.number != 0 {
-        return turned_down(verdict, game);
+    match check(book, game, marks) {
+        Ok(()) => round(book, game, marks),
+        Err(refusal) => turned_down(Verdict::from(refusal), game),
     }
-    if !fits(book, game) {
-        return turned_down(as_verdict(UNFIT, 0), game);
-    }
-    if marks.len() < NUMBERS_PER_PAIR * mark_steps(book) {
-        return turned_down(as_verdict(SHORT_BUFFER, 0), game);
-    }
-    round(book, game, marks)
 }

@@ -1,33 +1,34 @@
 -- A routine is read to its end, or it is wrong where its own block stops: what is found of that block, as the walk over the routine. The
 -- block is read from its step count as the lowest while, which lowers nothing.
 use Prim.Native.Nat.{ℕ, ◌≤◌}
-use mathlib.Core.Path.{◌≡◌, sym, ◌∙◌}
+use mathlib.Core.Path.{◌≡◌, refl, sym, ap, ◌∙◌}
 use mathlib.Core.Bool.{false}
 use mathlib.Core.List.{List}
 use native.Mathlib.Decide.{dec_lt}
 use native.Mathlib.Omega.{arith}
 use borrow.Author.Tests.{lt-ltb, le-ltb}
 use lib.IntN.{ℤ}
+use Rattle.std.specs.Prelude.{Ok, Err}
 use Rattle.kinds.specs.Limits.{step_within}
 use Rattle.kinds.specs.Steps.{steps_in}
-use Rattle.blocks.specs.declared.Fault.TheVariants as fault
-use Rattle.blocks.specs.declared.Walk.{Walk}
-use Rattle.blocks.specs.declared.Walk.TheVariants as walk
-use Rattle.blocks.specs.Blocks.{beyond, deepest, step_of, block_of, routine_of}
+use Rattle.forms.specs.declared.Form.{Form}
+use Rattle.forms.specs.declared.Form.TheVariants.{ElseMarker, EndMarker}
+use Rattle.blocks.specs.declared.Fault.{Fault}
+use Rattle.blocks.specs.declared.Fault.TheVariants.{Misnested}
+use Rattle.blocks.specs.Blocks.{Walk, beyond, stands, deepest, step_of, block_of, routine_of}
 use Rattle.blocks.proofs.Views.{seen_stands}
-use Rattle.reading.specs.declared.readers.Found.{Found}
-use Rattle.reading.specs.declared.readers.Found.TheVariants.{Past, AtElse, AtEnd, Unreadable, Misnested}
-use Rattle.reading.specs.Found.{view_by, walk_of, Stopped, lowered}
+use Rattle.reading.specs.declared.readers.Block.{Block}
+use Rattle.reading.specs.declared.readers.Stop.{Stop}
+use Rattle.reading.specs.declared.readers.Stop.TheVariants.{Beyond, AtElse, AtEnd}
+use Rattle.reading.specs.Found.{view_by, stop_view, walk_of, lowered}
 use Rattle.reading.proofs.Views.{view_seen, stands_below}
 use Rattle.reading.proofs.Lowered.{block_lowered}
 
--- what is found of a routine's own block, as the walk over the routine
-abbrev pub whole : Found → Walk
-whole (Past q u l) = walk.Past q u l
-whole (AtElse q u l) = walk.Fault (fault.Misnested q)
-whole (AtEnd q u l) = walk.Fault (fault.Misnested q)
-whole (Unreadable q u l) = walk.Fault (fault.Unreadable q)
-whole (Misnested q u l) = walk.Fault (fault.Misnested q)
+-- what stops a block before the routine's end is a marker
+stop_marker : (s : Stop) → (s ≡ Beyond → ⊥) → (f : Form) × (stop_view s ≡ stands f)
+stop_marker Beyond k = absurd (k refl)
+stop_marker AtElse k = (ElseMarker, refl)
+stop_marker AtEnd k = (EndMarker, refl)
 
 module _ (limits : List (List (List ℤ))) (steps : List ℕ) where
   abbrev n : ℕ
@@ -41,18 +42,31 @@ module _ (limits : List (List (List ℤ))) (steps : List ℕ) where
         | no m ↦ omega arith
       ]
 
-  own_block :
-      (r : Found) → walk_of r ≡ block_of (view_by limits steps) n deepest 0 → Stopped (view_by limits steps) r →
-      whole r ≡ routine_of (view_by limits steps) n
-  unfolding routine_of
-  own_block (Past q u l) e s = rw (← e, le-ltb q n (behind q s))
-  own_block (AtElse q u l) e s = rw (← e, lt-ltb q n (stands_below limits steps q s))
-  own_block (AtEnd q u l) e s = rw (← e, lt-ltb q n (stands_below limits steps q s))
-  own_block (Unreadable q u l) e s = rw (← e)
-  own_block (Misnested q u l) e s = rw (← e)
+  -- the routine's own block, which its step count lowers by nothing
+  module _ {m : ℕ} (count : n ≡ m) {w : Walk} (e : w ≡ lowered m (block_of (view_by limits steps) n deepest 0)) where
+    own_block : block_of (view_by limits steps) n deepest 0 ≡ w
+    own_block =
+        block_lowered (view_by limits steps) n n (step_of (view_by limits steps) n deepest) _ 0 false (omega arith)
+        ∙ sym (rw (← count) at e)
 
-  pub routine_found :
-      (r : Found) → walk_of r ≡ lowered n (block_of (view_by limits steps) n deepest 0) → Stopped (view_by limits steps) r →
-      whole r ≡ routine_of (view_by limits steps) n
-  routine_found r e s =
-      own_block r (e ∙ sym (block_lowered (view_by limits steps) n n (step_of (view_by limits steps) n deepest) _ 0 false (omega arith))) s
+  module _ {m : ℕ} (count : n ≡ m) where
+    pub routine_fault :
+        {f : Fault} → Err f ≡ lowered m (block_of (view_by limits steps) n deepest 0) → Err f ≡ routine_of (view_by limits steps) m
+    unfolding routine_of
+    routine_fault e = rw (← count, own_block count e)
+
+    module _ (b : Block) (e : walk_of (Ok b) ≡ lowered m (block_of (view_by limits steps) n deepest 0)) where
+      ends : view_by limits steps b.at ≡ beyond → walk_of (Ok b) ≡ routine_of (view_by limits steps) m
+      unfolding routine_of
+      ends s = rw (← count, own_block count e, le-ltb b.at n (behind b.at s))
+
+      stops : {f : Form} → view_by limits steps b.at ≡ stands f → Err (Misnested b.at) ≡ routine_of (view_by limits steps) m
+      unfolding routine_of
+      stops s = rw (← count, own_block count e, lt-ltb b.at n (stands_below limits steps b.at s))
+
+      module _ (s : view_by limits steps b.at ≡ stop_view b.stop) where
+        pub routine_past : b.stop ≡ Beyond → walk_of (Ok b) ≡ routine_of (view_by limits steps) m
+        routine_past k = ends (s ∙ ap stop_view k)
+
+        pub routine_stops : (b.stop ≡ Beyond → ⊥) → Err (Misnested b.at) ≡ routine_of (view_by limits steps) m
+        routine_stops k = let marker = stop_marker b.stop k in stops (s ∙ marker.1)

@@ -8,10 +8,10 @@ use borrow.Author.Tests.{lt-ltb, le-ltb}
 use lib.ListN.{length, take}
 use lib.Seq.{length-take-le}
 use lib.IntN.{ℤ}
+use Rattle.std.specs.Prelude.{Some}
 use Rattle.kinds.specs.Steps.{step_bytes, steps_in}
 use Rattle.kinds.specs.Limits.{step_within}
 use Rattle.kinds.specs.declared.Kind.{Kind}
-use Rattle.kinds.specs.declared.Step.TheVariants as step
 use Rattle.forms.specs.declared.Form.{Form}
 use Rattle.forms.specs.Forms.{form_of}
 use Rattle.blocks.specs.Blocks.{beyond, stands, seen}
@@ -32,7 +32,7 @@ module _ (limits : List (List (List ℤ))) (steps : List ℕ) (p : ℕ) where
   view_seen h = rw (lt-ltb p (steps_in steps) h)
 
   pub stands_there :
-      {k : Kind} → p < steps_in steps → step_within limits steps p ≡ step.Kind k → view_by limits steps p ≡ stands (form_of k)
+      {k : Kind} → p < steps_in steps → step_within limits steps p ≡ Some k → view_by limits steps p ≡ stands (form_of k)
   stands_there h e = rw (view_seen h, e)
 
 pub stands_below :

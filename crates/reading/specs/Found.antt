@@ -1,61 +1,41 @@
 -- What the readers find, and how the definitions of blocks say the same.
-use Rattle.std.specs.Prelude.{ℕ, ◌+◌, min, ◌≡◌, List, ltb, ℤ, if◌then◌else◌}
+use Rattle.std.specs.Prelude.{ℕ, min, ◌≡◌, List, ltb, ℤ, if◌then◌else◌, Option, Some, None, Result, Ok, Err}
 use Rattle.kinds.specs.Steps.{steps_in}
 use Rattle.kinds.specs.Limits.{step_within}
-use Rattle.forms.specs.declared.Form.{Form}
-use Rattle.forms.specs.declared.Form.TheVariants.{Plain, Pausing, IfOpening, ElseMarker, WhileOpening, EndMarker}
-use Rattle.blocks.specs.declared.Fault.TheVariants as fault
-use Rattle.blocks.specs.declared.Walk.{Walk}
-use Rattle.blocks.specs.declared.Walk.TheVariants as walk
-use Rattle.blocks.specs.Blocks.{View, beyond, stands, seen, and_then}
-use Rattle.reading.specs.declared.readers.Found.{Found}
-use Rattle.reading.specs.declared.readers.Found.TheVariants.{Past, AtElse, AtEnd, Unreadable, Misnested}
+use Rattle.forms.specs.declared.Form.TheVariants.{ElseMarker, EndMarker}
+use Rattle.blocks.specs.declared.Fault.{Fault}
+use Rattle.blocks.specs.Blocks.{Walk, past, View, beyond, stands, seen, and_then}
+use Rattle.verdicts.specs.declared.Verdict.{Verdict}
+use Rattle.verdicts.specs.Verdicts.{accepted, refused}
+use Rattle.reading.specs.declared.readers.Block.{Block}
+use Rattle.reading.specs.declared.readers.Stop.{Stop}
+use Rattle.reading.specs.declared.readers.Stop.TheVariants.{Beyond, AtElse, AtEnd}
 
 -- what stands at a place of a routine whose steps these are, held against limits
 unfoldable pub view_by : List (List (List ℤ)) → List ℕ → ℕ → View
 view_by limits steps p = if ltb p (steps_in steps) then seen (step_within limits steps p) else beyond
 
--- a step that holds blocks
-abbrev pub Opens : Form → Type 0
-Opens Plain = ⊥
-Opens Pausing = ⊥
-Opens IfOpening = Unit {0}
-Opens ElseMarker = ⊥
-Opens WhileOpening = Unit {0}
-Opens EndMarker = ⊥
-
--- what is found of a block, as a walk: a marker that stops it is behind it
-abbrev pub walk_of : Found → Walk
-walk_of (Past q u l) = walk.Past q u l
-walk_of (AtElse q u l) = walk.Past q u l
-walk_of (AtEnd q u l) = walk.Past q u l
-walk_of (Unreadable q u l) = walk.Fault (fault.Unreadable q)
-walk_of (Misnested q u l) = walk.Fault (fault.Misnested q)
-
 -- what stands where a block stops
-abbrev pub Stopped : (ℕ → View) → Found → Type 0
-Stopped at (Past q u l) = at q ≡ beyond
-Stopped at (AtElse q u l) = at q ≡ stands ElseMarker
-Stopped at (AtEnd q u l) = at q ≡ stands EndMarker
-Stopped at (Unreadable q u l) = Unit {0}
-Stopped at (Misnested q u l) = Unit {0}
+abbrev pub stop_view : Stop → View
+stop_view Beyond = beyond
+stop_view AtElse = stands ElseMarker
+stop_view AtEnd = stands EndMarker
 
--- what becomes of a step opened at p if this is found of its last block, and not an end
-abbrev pub unclosed_of : Found → ℕ → Found
-unclosed_of (Past q u l) p = Misnested p u l
-unclosed_of (AtElse q u l) p = Misnested q u l
-unclosed_of (AtEnd q u l) p = Misnested q u l
-unclosed_of (Unreadable q u l) p = Unreadable q u l
-unclosed_of (Misnested q u l) p = Misnested q u l
+-- what is found of a block, as a walk: what stops it is behind it
+abbrev pub walk_of : Result Block Fault → Walk
+walk_of (Ok b) = past b.at b.pauses b.lowest
+walk_of (Err f) = Err f
 
--- what is found of the last block of a step opened at p, as the walk over that step: it ends behind its end
-abbrev pub held_of : ℕ → Found → Walk
-held_of p (Past q u l) = walk.Fault (fault.Misnested p)
-held_of p (AtElse q u l) = walk.Fault (fault.Misnested q)
-held_of p (AtEnd q u l) = walk.Past (q + 1) u l
-held_of p (Unreadable q u l) = walk.Fault (fault.Unreadable q)
-held_of p (Misnested q u l) = walk.Fault (fault.Misnested q)
+-- a block stops where that stands which stops it
+abbrev pub Stopped : (ℕ → View) → Result Block Fault → Type 0
+Stopped at (Ok b) = at b.at ≡ stop_view b.stop
+Stopped at (Err f) = Unit {0}
 
 -- the walk w, where l is the lowest endless while that was met before it
 abbrev pub lowered : ℕ → Walk → Walk
-lowered l w = and_then w (λ q u m. walk.Past q u (min l m))
+lowered l w = and_then w (λ q u m. past q u (min l m))
+
+-- what is told of the lowest while without a pause, where there is one
+abbrev pub unpaused_verdict : Option ℕ → Verdict
+unpaused_verdict (Some p) = refused 7 p
+unpaused_verdict None = accepted

@@ -7,11 +7,12 @@ use mathlib.Core.List.{List, [], ◌∷◌}
 use lib.Dec.{eqb}
 use lib.ListN.{length}
 use lib.IntN.{ℤ}
+use Rattle.std.specs.Prelude.{Option}
+use Rattle.kinds.specs.declared.Kind.{Kind}
 use Rattle.kinds.specs.Ops.{op_mark}
 use Rattle.numbers.specs.declared.Sum.{Sum}
 use Rattle.numbers.specs.Numbers.{CounterInRange}
 use Rattle.numbers.proofs.Sums.{most_lost_by_one}
-use Rattle.kinds.specs.declared.Step.{Step}
 use Rattle.kinds.specs.declared.Counts.{Counts}
 use Rattle.kinds.specs.Steps.{op_at, step_at, steps_in}
 use Rattle.forms.specs.Timed.{MayBeLeft}
@@ -66,7 +67,7 @@ abbrev pub is_signal_or_mark : ℕ → Bool
 is_signal_or_mark op = is_signal_op op || eqb op op_mark
 
 -- some is left of the count of a timed step that asks for a thing
-abbrev SomeLeft : Position → {st : Step} {t : Thing} → AsksFor st t → Type 0
+abbrev SomeLeft : Position → {st : Option Kind} {t : Thing} → AsksFor st t → Type 0
 SomeLeft x wait = Unit {0}
 SomeLeft x (wait_for {n = n}) = 0 < count_at x n
 SomeLeft x join = Unit {0}
@@ -74,7 +75,7 @@ SomeLeft x (join_for {n = n}) = 0 < count_at x n
 SomeLeft x read = Unit {0}
 
 -- a step asks for a thing, and goes no further if that isn't there: a timed step while some of its count is left
-abbrev pub Asks : Position → Step → Thing → Type 0
+abbrev pub Asks : Position → Option Kind → Thing → Type 0
 Asks x st t = (asks : AsksFor st t) × SomeLeft x asks
 
 module _ (counts : Counts) (steps : List ℕ) where

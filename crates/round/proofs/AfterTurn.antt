@@ -10,6 +10,7 @@ use borrow.Author.Tests.{eqb-true}
 use lib.Dec.{eqb}
 use lib.ListN.{length, get_or-eq_default}
 use lib.Seq.{get_or-set_same}
+use Rattle.std.specs.Prelude.{Some}
 use Rattle.numbers.proofs.Tests.{clash, by_test}
 use Rattle.game.specs.declared.Routine.{Routine}
 use Rattle.game.specs.Game.{continuing, blank, routine_at, with_routine}
@@ -17,7 +18,6 @@ use Rattle.orders.proofs.Stores.{same_set}
 use Rattle.round.specs.declared.Ending.{Ending}
 use Rattle.round.specs.declared.Ending.TheVariants.{Ended, Rested, Missed, Continued}
 use Rattle.round.specs.declared.Position.{Position}
-use Rattle.round.specs.declared.Turn.TheVariants.{Took}
 use Rattle.round.specs.State.{State, with_game, Thing, signal, end, number, counts_as_ended, is_there}
 use Rattle.round.specs.Actions.{position_of, placed}
 use Rattle.round.specs.Rounds.{Ticks, stage_after, with_end, behind_turn, after_turn, PlayedTurns, not_taken, taken, is_done}
@@ -33,7 +33,7 @@ going_parts true stage h = clash h refl
 going_parts false stage h = (refl, eqb-true stage continuing (sym (not-not _) ∙ h))
 
 -- the stage in which a turn that is to be continued leaves its routine is the one in which it takes turns
-going_after : (how : Ending) → not (not (eqb (stage_after how) continuing)) ≡ not (is_done (Took how))
+going_after : (how : Ending) → not (not (eqb (stage_after how) continuing)) ≡ not (is_done (Some how))
 going_after Ended = refl
 going_after Rested = refl
 going_after Missed = refl
@@ -106,7 +106,7 @@ module _
     position_after_lem = ap position_of routine_after
 
     -- it takes another turn in the same round if this one is to be continued
-    pub after_going : is_going (after_turn r t) r ≡ not (is_done (Took t.ending))
+    pub after_going : is_going (after_turn r t) r ≡ not (is_done (Some t.ending))
     after_going = rw (routine_after, standing_going.0, going_after t.ending)
 
     -- what is missing behind the steps is missing behind a turn that is to be continued

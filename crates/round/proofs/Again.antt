@@ -7,7 +7,7 @@ use mathlib.Core.List.{List, [], ◌∷◌}
 use native.Mathlib.Numerals.{add-one}
 use native.Mathlib.Omega.{arith}
 use lib.Seq.{set-get_or}
-use Rattle.std.specs.Prelude.{if◌then◌else◌}
+use Rattle.std.specs.Prelude.{if◌then◌else◌, Some}
 use Rattle.numbers.proofs.Tests.{by_test, by_flag}
 use Rattle.kinds.specs.declared.Counts.{Counts}
 use Rattle.kinds.specs.Steps.{steps_in}
@@ -20,7 +20,6 @@ use Rattle.round.specs.declared.Ending.{Ending}
 use Rattle.round.specs.declared.Ending.TheVariants.{Missed, Continued}
 use Rattle.round.specs.declared.Position.{Position}
 use Rattle.round.specs.declared.Act.TheVariants.{Halts}
-use Rattle.round.specs.declared.Turn.TheVariants.{Took}
 use Rattle.round.specs.State.{State, with_game, Thing, Event, missing, past, completed, is_there}
 use Rattle.round.specs.Actions.{position_of}
 use Rattle.round.specs.Ticks.{Tick, tick, fresh}
@@ -86,7 +85,7 @@ module _ (book : List ℕ) where
 
     pub turn_unchanged :
         is_there s t ≡ false → s.eoi ≡ false →
-        turn book r s ≡ record { state = s; trace = missing r p t ∷ []; turns = Took Continued ∷ [] }
+        turn book r s ≡ record { state = s; trace = missing r p t ∷ []; turns = Some Continued ∷ [] }
     turn_unchanged m unclosed =
         let (y, all) = missed_ticks m in
         let whole = subst (λ c. ticks_of book r s ≡ (if c then halted Missed y else halted Continued here)) unclosed all in
@@ -101,11 +100,11 @@ module _ (book : List ℕ) where
 
   module _ (a : Accepted book) where
     -- a try again with nothing come since leaves everything as it was and continues
-    pub tries_again : (r : ℕ) (s : State) → r < routines_of book → (turn book r s).turns ≡ Took Continued ∷ [] → TriesAgain book r s
+    pub tries_again : (r : ℕ) (s : State) → r < routines_of book → (turn book r s).turns ≡ Some Continued ∷ [] → TriesAgain book r s
     tries_again r s l turns =
         let (how, out, after) = turn_out book a r s l going in
         let e : how ≡ Continued = cc in
-        let on : is_going (turn book r s).state r ≡ true = after ∙ ap (λ h. not (is_done (Took h))) e in
+        let on : is_going (turn book r s).state r ≡ true = after ∙ ap (λ h. not (is_done (Some h))) e in
         let c = (turn_continues book a r s l going on).1 in
         let w = c.halt in
         record {

@@ -4,8 +4,9 @@ use Prim.Native.Nat.{ℕ}
 use mathlib.Core.Path.{◌≡◌, ap, subst}
 use mathlib.Core.List.{List, [], ◌∷◌, ◌++◌}
 use mathlib.Core.Logic.{◌⊎◌, inl, inr}
+use Rattle.std.specs.Prelude.{Option}
+use Rattle.kinds.specs.declared.Kind.{Kind}
 use Rattle.numbers.specs.Counting.{Somewhere}
-use Rattle.kinds.specs.declared.Step.{Step}
 use Rattle.forms.specs.Timed as timed
 use Rattle.forms.specs.Timed.{Timed}
 use Rattle.layout.specs.Layout.{counts_of}
@@ -26,11 +27,11 @@ use Rattle.round.proofs.Traces.{EachWith, each_at}
 use Rattle.round.proofs.Stepping.{ticks_by}
 use Rattle.round.proofs.AfterTurn.{turn_by}
 
-abbrev Untimed : Step → Type 0
+abbrev Untimed : Option Kind → Type 0
 Untimed st = (n : ℕ) → Timed st n → ⊥
 
 -- a step without a count goes no further if its thing isn't there
-untimed_asks : (x : Position) {st : Step} {t : Thing} → AsksFor st t → Untimed st → Asks x st t
+untimed_asks : (x : Position) {st : Option Kind} {t : Thing} → AsksFor st t → Untimed st → Asks x st t
 untimed_asks x wait none = (wait, tt)
 untimed_asks x (wait_for {n = n}) none = absurd (none n timed.wait_for)
 untimed_asks x join none = (join, tt)

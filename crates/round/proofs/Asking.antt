@@ -7,9 +7,9 @@ use mathlib.Core.List.{List, [], ◌∷◌}
 use native.Mathlib.Omega.{arith}
 use borrow.Author.Tests.{ne_eqb}
 use lib.Dec.{eqb}
-use Rattle.std.specs.Prelude.{if◌then◌else◌}
+use Rattle.std.specs.Prelude.{if◌then◌else◌, Option}
+use Rattle.kinds.specs.declared.Kind.{Kind}
 use Rattle.numbers.proofs.Tests.{by_test}
-use Rattle.kinds.specs.declared.Step.{Step}
 use Rattle.round.specs.declared.Ending.TheVariants.{Missed, Continued}
 use Rattle.round.specs.declared.Position.{Position}
 use Rattle.round.specs.declared.Effect.{Effect}
@@ -21,7 +21,7 @@ use Rattle.round.specs.claims.Demand.{AsksFor, wait, wait_for, join, join_for, r
 use Rattle.round.proofs.Acts.{Asks}
 
 -- a step asks for one thing
-pub asks_once : {st : Step} {t u : Thing} → AsksFor st t → AsksFor st u → t ≡ u
+pub asks_once : {st : Option Kind} {t u : Thing} → AsksFor st t → AsksFor st u → t ≡ u
 asks_once wait wait = refl
 asks_once wait_for wait_for = refl
 asks_once join join = refl
@@ -38,7 +38,7 @@ module _ (r : ℕ) (steps : List ℕ) (x : Position) (s : State) where
 
   -- the step that asks for t tries for it
   asks_tries :
-      {st : Step} {t : Thing} → Asks x st t →
+      {st : Option Kind} {t : Thing} → Asks x st t →
       (e : Effect) × (y : Position) × (tick_at r steps x s st ≡ tries r steps x s t e y)
   unfolding tick_of
   asks_tries (wait, l) = (Nothing, fresh x.place, refl)
@@ -48,19 +48,19 @@ module _ (r : ℕ) (steps : List ℕ) (x : Position) (s : State) where
   asks_tries (read {e} {c} {k}, l) = (Put c (number_at s e k), fresh (x.place + 1), refl)
 
   pub asked_there :
-      {st : Step} {t : Thing} → Asks x st t → is_there s t ≡ true →
+      {st : Option Kind} {t : Thing} → Asks x st t → is_there s t ≡ true →
       (e : Effect) × (tick_at r steps x s st ≡ tick_with (Goes (x.place + 1) e) (past r x.place t ∷ []))
   asked_there a h = let (e, y, tried) = asks_tries a in (e, rw h at tried)
 
   pub asked_missing :
-      {st : Step} {t : Thing} → Asks x st t → is_there s t ≡ false →
+      {st : Option Kind} {t : Thing} → Asks x st t → is_there s t ≡ false →
       (y : Position) ×
       (tick_at r steps x s st ≡ tick_with (if s.eoi then Halts Missed y else Halts Continued x) (missing r x.place t ∷ []))
   asked_missing a h = let (e, y, tried) = asks_tries a in (y, rw h at tried)
 
   -- so where the turn goes on, the thing was found
   pub asked_goes :
-      {st : Step} {t : Thing} {q : ℕ} {e : Effect} {events : List Event} → Asks x st t →
+      {st : Option Kind} {t : Thing} {q : ℕ} {e : Effect} {events : List Event} → Asks x st t →
       tick_at r steps x s st ≡ tick_with (Goes q e) events → events ≡ past r x.place t ∷ []
   asked_goes {t = t} {q} {e} {events} a on =
       let (f, y, tried) = asks_tries a in

@@ -8,8 +8,9 @@ use mathlib.Core.List.{List}
 use mathlib.Core.Logic.{◌⊎◌, inl, inr, ⊎_elim}
 use native.Mathlib.Decide.{ℕ_discrete}
 use native.Mathlib.Omega.{arith}
+use Rattle.std.specs.Prelude.{Option, Some}
 use Rattle.numbers.specs.Counting.{Among}
-use Rattle.kinds.specs.declared.Step.{Step}
+use Rattle.kinds.specs.declared.Kind.{Kind}
 use Rattle.kinds.specs.declared.Counts.{Counts}
 use Rattle.kinds.specs.Steps.{step_at, steps_in}
 use Rattle.forms.specs.Timed.{Timed, rest_for, wait_for, join_for}
@@ -26,7 +27,6 @@ use Rattle.round.specs.declared.Position.{Position}
 use Rattle.round.specs.declared.Effect.{Effect}
 use Rattle.round.specs.declared.Act.{Act}
 use Rattle.round.specs.declared.Act.TheVariants.{Goes, Halts}
-use Rattle.round.specs.declared.Turn.TheVariants.{Took}
 use Rattle.round.specs.State.{State, Thing, signal, end, Event, is_there}
 use Rattle.round.specs.Actions.{position_of, at_start}
 use Rattle.round.specs.Ticks.{begun_at, count_at, tick_at, tick, fresh}
@@ -66,7 +66,7 @@ module _ (counts : Counts) (r : ℕ) (steps : List ℕ) (n : ℕ) (x : Position)
 
 -- a timed step whose thing is there asks for it, with some left
 asked :
-    (x : Position) (s : State) {st : Step} {n : ℕ} (timed : Timed st n) → 0 < count_at x n → has_thing s timed ≡ true →
+    (x : Position) (s : State) {st : Option Kind} {n : ℕ} (timed : Timed st n) → 0 < count_at x n → has_thing s timed ≡ true →
     (t : Thing) × Asks x st t × (is_there s t ≡ true)
 asked x s rest_for some h = clash h refl
 asked x s (wait_for {e}) some h = (signal e, (AsksFor.wait_for, some), h)
@@ -74,7 +74,7 @@ asked x s (join_for {r}) some h = (end r, (AsksFor.join_for, some), h)
 
 -- what is missing was missing before
 was_missing :
-    (s u : State) → StillThere s u → {st : Step} {n : ℕ} (timed : Timed st n) → has_thing u timed ≡ false → has_thing s timed ≡ false
+    (s u : State) → StillThere s u → {st : Option Kind} {n : ℕ} (timed : Timed st n) → has_thing u timed ≡ false → has_thing s timed ≡ false
 was_missing s u keeps rest_for m = refl
 was_missing s u keeps (wait_for {e}) m = not_true_false _ (λ h. clash (keeps (signal e) h) m)
 was_missing s u keeps (join_for {r}) m = not_true_false _ (λ h. clash (keeps (end r) h) m)
@@ -89,7 +89,7 @@ module _
     abbrev x : Position
     x = stands_first g r
 
-    module _ {st : Step} {n : ℕ} (timed : Timed st n) (here : step_at (counts_of book) steps x.place ≡ st) where
+    module _ {st : Option Kind} {n : ℕ} (timed : Timed st n) (here : step_at (counts_of book) steps x.place ≡ st) where
       abbrev k : ℕ
       k = count_at x n
 
@@ -110,14 +110,14 @@ module _
         halts_here :
             {how : Ending} {y : Position} → (tick_at r steps x s st).act ≡ Halts how y →
             let v = routine_at (turn book r s).state.game r in
-            (is_going (turn book r s).state r ≡ not (is_done (Took how))) × (v.stage ≡ stage_after how) × (position_of v ≡ y)
+            (is_going (turn book r s).state r ≡ not (is_done (Some how))) × (v.stage ≡ stage_after how) × (position_of v ≡ y)
         halts_here act =
             let t = ticks_of book r s in
             let standing = (turn_untouched book r s).standings r in
             let (ending, position) = first_halts (counts_of book) r steps (steps_in steps) x s (act_here ∙ act) in
             let how = ap (λ (t : Ticks). t.ending) from_here ∙ ending in
             rw (turn_taken book r s due.0) (
-              after_going r s t standing due.0 ∙ ap (λ h. not (is_done (Took h))) how,
+              after_going r s t standing due.0 ∙ ap (λ h. not (is_done (Some h))) how,
               ap (λ (v : Routine). v.stage) (routine_after r s t standing due.0) ∙ ap stage_after how,
               position_after_lem r s t standing due.0 ∙ ap (λ (t : Ticks). t.position) from_here ∙ position,
             )

@@ -5,11 +5,11 @@ use mathlib.Core.Path.{◌≡◌, subst}
 use mathlib.Core.List.{List}
 use lib.IntN.{ℤ}
 use lib.Signed.{◌≤ℤ◌}
+use Rattle.std.specs.Prelude.{Some}
 use Rattle.numbers.specs.Numbers.{CounterInRange}
 use Rattle.kinds.specs.declared.Kind.{Kind}
 use Rattle.kinds.specs.declared.Kind.TheVariants.{Mark, Set, Add, Take, Signal, SignalNumber, Rest, RestFor, Wait, WaitFor}
 use Rattle.kinds.specs.declared.Kind.TheVariants.{Join, JoinFor, Read, Start, Stop, Suspend, Resume, If, Else, While, End}
-use Rattle.kinds.specs.declared.Step.TheVariants as step
 use Rattle.kinds.specs.declared.Counts.{Counts}
 use Rattle.kinds.specs.Steps.{Row, table, field_a, field_b, field_n, step_at}
 use Rattle.kinds.proofs.Readable.{step_readable}
@@ -69,7 +69,7 @@ module _ (counts : Counts) (a b : ℕ) (n : ℤ) where
       and (λ ha hb low high. tt)
       and tt
 
-pub fields_right : (counts : Counts) (steps : List ℕ) (p : ℕ) (k : Kind) → step_at counts steps p ≡ step.Kind k → FieldsRight counts k
+pub fields_right : (counts : Counts) (steps : List ℕ) (p : ℕ) (k : Kind) → step_at counts steps p ≡ Some k → FieldsRight counts k
 fields_right counts steps p k e =
     let a = field_a steps p in
     let b = field_b steps p in

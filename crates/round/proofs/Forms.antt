@@ -7,12 +7,10 @@ use mathlib.Core.List.{List}
 use mathlib.Core.Logic.{◌⊎◌, inl, inr}
 use lib.Dec.{eqb}
 use lib.IntN.{ℤ}
-use Rattle.std.specs.Prelude.{if◌then◌else◌}
+use Rattle.std.specs.Prelude.{if◌then◌else◌, Option, Some}
 use Rattle.kinds.specs.declared.Kind.{Kind}
 use Rattle.kinds.specs.declared.Kind.TheVariants.{Mark, Set, Add, Take, Signal, SignalNumber, Rest, RestFor, Wait, WaitFor}
 use Rattle.kinds.specs.declared.Kind.TheVariants.{Join, JoinFor, Read, Start, Stop, Suspend, Resume, If, Else, While, End}
-use Rattle.kinds.specs.declared.Step.{Step}
-use Rattle.kinds.specs.declared.Step.TheVariants as step
 use Rattle.kinds.specs.declared.Counts.{Counts}
 use Rattle.forms.specs.declared.Form.{Form}
 use Rattle.forms.specs.declared.Form.TheVariants.{Plain, Pausing, IfOpening, ElseMarker, WhileOpening, EndMarker}
@@ -24,19 +22,19 @@ use Rattle.partners.proofs.Scan.{kind_there}
 use Rattle.round.proofs.Leads.{form_at}
 
 -- what a step of a form is
-abbrev pub Formed : Form → Step → Type 0
-Formed Plain st = (k : Kind) × (st ≡ step.Kind k) × (form_of k ≡ Plain)
-Formed Pausing st = (k : Kind) × (st ≡ step.Kind k) × (form_of k ≡ Pausing)
-Formed IfOpening st = (c : ℕ) × (relation : ℕ) × (n : ℤ) × (st ≡ step.Kind (If c relation n))
-Formed ElseMarker st = st ≡ step.Kind Else
-Formed WhileOpening st = (c : ℕ) × (relation : ℕ) × (n : ℤ) × (st ≡ step.Kind (While c relation n))
-Formed EndMarker st = st ≡ step.Kind End
+abbrev pub Formed : Form → Option Kind → Type 0
+Formed Plain st = (k : Kind) × (st ≡ Some k) × (form_of k ≡ Plain)
+Formed Pausing st = (k : Kind) × (st ≡ Some k) × (form_of k ≡ Pausing)
+Formed IfOpening st = (c : ℕ) × (relation : ℕ) × (n : ℤ) × (st ≡ Some (If c relation n))
+Formed ElseMarker st = st ≡ Some Else
+Formed WhileOpening st = (c : ℕ) × (relation : ℕ) × (n : ℤ) × (st ≡ Some (While c relation n))
+Formed EndMarker st = st ≡ Some End
 
-rest_formed : (t : Bool) (k : Kind) → form_of k ≡ (if t then Plain else Pausing) → Formed (if t then Plain else Pausing) (step.Kind k)
+rest_formed : (t : Bool) (k : Kind) → form_of k ≡ (if t then Plain else Pausing) → Formed (if t then Plain else Pausing) (Some k)
 rest_formed true k h = (k, refl, h)
 rest_formed false k h = (k, refl, h)
 
-formed : (k : Kind) → Formed (form_of k) (step.Kind k)
+formed : (k : Kind) → Formed (form_of k) (Some k)
 formed (Mark n) = (Mark n, refl, refl)
 formed (Set c n) = (Set c n, refl, refl)
 formed (Add c n) = (Add c n, refl, refl)
@@ -102,10 +100,10 @@ module _ (counts : Counts) (steps : List ℕ) where
   -- a step that holds no block and is no marker
   pub leaf_there :
       (p : ℕ) → (at p ≡ stands Plain) ⊎ (at p ≡ stands Pausing) →
-      (k : Kind) × (step_at counts steps p ≡ step.Kind k) × ((form_of k ≡ Plain) ⊎ (form_of k ≡ Pausing))
+      (k : Kind) × (step_at counts steps p ≡ Some k) × ((form_of k ≡ Plain) ⊎ (form_of k ≡ Pausing))
   leaf_there p (inl h) = let (k, e, g) = form_there p h in (k, e, inl g)
   leaf_there p (inr h) = let (k, e, g) = form_there p h in (k, e, inr g)
 
   -- a step's op is its kind's
-  pub step_op : (p : ℕ) {k : Kind} → step_at counts steps p ≡ step.Kind k → op_at steps p ≡ op_of k
+  pub step_op : (p : ℕ) {k : Kind} → step_at counts steps p ≡ Some k → op_at steps p ≡ op_of k
   step_op p e = kind_holds OwnKind counts steps p (own_kinds (field_a steps p) (field_b steps p) (field_n steps p)) e

@@ -8,11 +8,10 @@ use mathlib.Core.Logic.{inl, inr}
 use native.Mathlib.Decide.{dec_lt}
 use native.Mathlib.Omega.{arith}
 use lib.Dec.{eqb}
+use Rattle.std.specs.Prelude.{Option, Some, None}
 use Rattle.numbers.proofs.Tests.{by_test}
 use Rattle.kinds.specs.declared.Kind.{Kind}
 use Rattle.kinds.specs.declared.Kind.TheVariants as kind
-use Rattle.kinds.specs.declared.Step.{Step}
-use Rattle.kinds.specs.declared.Step.TheVariants as step
 use Rattle.kinds.specs.Steps.{steps_in}
 use Rattle.kinds.proofs.Readable.{kind_not_refused}
 use Rattle.layout.specs.Layout.{routines_of, counts_of}
@@ -103,7 +102,7 @@ module _ (book : List ℕ) (r : ℕ) where
         by_test HaltingTick (eqb k 0 && not (is_there s t)) (λ over. tt)
         (λ h. tries_halt t Nothing (begun_at x.place (k - 1)) (λ none. may (some_left k (rw (none, and-true) at h))))
 
-    kind_halts : (k : Kind) → routine_step book r x.place ≡ step.Kind k → HaltingTick (tick_of r steps x s k)
+    kind_halts : (k : Kind) → routine_step book r x.place ≡ Some k → HaltingTick (tick_of r steps x s k)
     unfolding tick_of
     kind_halts (kind.Mark n) o = tt
     kind_halts (kind.Set c n) o = tt
@@ -132,7 +131,7 @@ module _ (book : List ℕ) (r : ℕ) where
 
     -- in an accepted book, at one of its steps or behind the last
     module _ (a : Accepted book) (below : r < routines_of book) (inside : x.place ≤ steps_in (routine_steps book r)) where
-      behind_last : routine_step book r x.place ≡ step.Refused → x.place ≡ step_count book r
+      behind_last : routine_step book r x.place ≡ None → x.place ≡ step_count book r
       behind_last none =
           elim (dec_lt x.place (step_count book r)) [
             | yes l ↦
@@ -141,9 +140,9 @@ module _ (book : List ℕ) (r : ℕ) where
             | no n ↦ omega (arith, inside, size_same book a r below)
           ]
 
-      step_halts : (st : Step) → routine_step book r x.place ≡ st → HaltingTick (tick_at r steps x s st)
-      step_halts (step.Kind k) o = kind_halts k o
-      step_halts step.Refused none = λ v d q. LeftAt.ends (behind_last none) d (q ∙ ap fresh (size_same book a r below))
+      step_halts : (st : Option Kind) → routine_step book r x.place ≡ st → HaltingTick (tick_at r steps x s st)
+      step_halts (Some k) o = kind_halts k o
+      step_halts None none = λ v d q. LeftAt.ends (behind_last none) d (q ∙ ap fresh (size_same book a r below))
 
       pub halted :
           {how : Ending} {y : Position} {events : List Event} → tick (counts_of book) r steps x s ≡ tick_with (Halts how y) events →

@@ -8,11 +8,11 @@ use mathlib.Core.Logic.{◌↔◌}
 use borrow.Author.Tests.{eq-eqb, eqb-true}
 use lib.Dec.{eqb}
 use lib.IntN.{ℤ}
+use Rattle.std.specs.Prelude.{Some}
 use Rattle.numbers.specs.Counting.{Counted}
 use Rattle.kinds.specs.Ops.{op_mark}
 use Rattle.kinds.specs.declared.Kind.{Kind}
 use Rattle.kinds.specs.declared.Kind.TheVariants.{Mark}
-use Rattle.kinds.specs.declared.Step.TheVariants as step
 use Rattle.kinds.specs.declared.Counts.{Counts}
 use Rattle.kinds.specs.Steps.{row_of, kind_of, op_at, field_a, field_b, field_n, step_at}
 use Rattle.kinds.proofs.Rows.{row_kind}
@@ -44,11 +44,11 @@ mark_row op a b n e h = sym (rw e at h)
 
 -- a step that is read has op 0 exactly if it is a mark
 mark_step :
-    (counts : Counts) (steps : List ℕ) (i : ℕ) {k : Kind} → step_at counts steps i ≡ step.Kind k →
+    (counts : Counts) (steps : List ℕ) (i : ℕ) {k : Kind} → step_at counts steps i ≡ Some k →
     (eqb (op_at steps i) op_mark ≡ true) ↔ ((n : ℤ) × (k ≡ Mark n))
 mark_step counts steps i e = (
   λ h. (field_n steps i, mark_row _ (field_a steps i) (field_b steps i) _ (eqb-true _ _ h) (row_kind counts steps i e)),
-  λ v. eq-eqb _ _ (step_op counts steps i (e ∙ ap step.Kind v.1)),
+  λ v. eq-eqb _ _ (step_op counts steps i (e ∙ ap Some v.1)),
 )
 
 -- "the book's mark steps"
@@ -57,4 +57,4 @@ mark_steps_lem book a =
     counted (λ i. eqb (op_at (steps_part book) i) op_mark) (MarkAt book) (steps_of book) (λ i l.
     let (k, e) = step_kind book a i l in
     let test = mark_step (counts_of book) (steps_part book) i e in
-    (λ h. let (n, m) = test.0 h in (n, e ∙ ap step.Kind m), λ v. test.1 (v.0, cc)))
+    (λ h. let (n, m) = test.0 h in (n, e ∙ ap Some m), λ v. test.1 (v.0, cc)))

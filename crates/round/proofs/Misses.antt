@@ -4,6 +4,7 @@ use Prim.Native.Nat.{ℕ, ◌<◌}
 use mathlib.Core.Path.{◌≡◌, refl, ap, ◌∙◌}
 use mathlib.Core.List.{List, [], ◌∷◌}
 use native.Mathlib.Omega.{arith}
+use Rattle.std.specs.Prelude.{Some}
 use Rattle.numbers.specs.Counting.{how_many}
 use Rattle.kinds.specs.declared.Counts.{Counts}
 use Rattle.layout.specs.Layout.{routines_of}
@@ -12,7 +13,6 @@ use Rattle.game.specs.declared.Game.{Game}
 use Rattle.fitting.specs.Fits.{Fits}
 use Rattle.round.specs.declared.Ending.{Ending}
 use Rattle.round.specs.declared.Position.{Position}
-use Rattle.round.specs.declared.Turn.TheVariants.{Took}
 use Rattle.round.specs.State.{State, Event}
 use Rattle.round.specs.Actions.{at_start}
 use Rattle.round.specs.Rounds.{PlayedTurns, followed_by, most_passes, listed_in, turn, round, trace_of}
@@ -34,7 +34,7 @@ misses_both a b h k = omega (arith, many_append is_miss a.trace b.trace, many_ap
 -- the events of the last step of a turn
 stops_miss :
     {counts : Counts} {r : ℕ} {steps : List ℕ} {x : Position} {s : State} {how : Ending} {y : Position} {events : List Event} →
-    Stops counts r steps x s how y events → how_many is_miss events ≡ how_many found_missing (Took how ∷ [])
+    Stops counts r steps x s how y events → how_many is_miss events ≡ how_many found_missing (Some how ∷ [])
 unfolding how_many
 stops_miss ends = refl
 stops_miss rests = refl

@@ -5,13 +5,13 @@ use mathlib.Core.Path.{◌≡◌, sym, ap, ◌∙◌}
 use mathlib.Core.Bool.{true, false, not}
 use mathlib.Core.List.{List, [], ◌∷◌, ◌++◌}
 use borrow.Author.Tests.{not-true, not-false}
+use Rattle.std.specs.Prelude.{Some}
 use Rattle.numbers.specs.Counting.{how_many}
 use Rattle.layout.specs.Layout.{routines_of, counts_of}
 use Rattle.directory.specs.Directory.{routine_steps}
 use Rattle.book.specs.Accepted.{Accepted}
 use Rattle.game.specs.Game.{routine_at}
 use Rattle.round.specs.declared.Ending.{Ending}
-use Rattle.round.specs.declared.Turn.TheVariants.{Took}
 use Rattle.round.specs.State.{State}
 use Rattle.round.specs.Actions.{position_of}
 use Rattle.round.specs.Rounds.{Ticks, most_ticks, after_turn, is_done, ticks_of, turn}
@@ -44,11 +44,11 @@ module _ (book : List ℕ) (a : Accepted book) where
     untouched : Untouched s all.state
     untouched = turn_untouched book r s
 
-    out : is_going (after_turn r all) r ≡ not (is_done (Took all.ending))
+    out : is_going (after_turn r all) r ≡ not (is_done (Some all.ending))
     out = after_going r s all (untouched.standings r) going
 
     pub turn_out :
-        (h : Ending) × ((turn book r s).turns ≡ Took h ∷ []) × (is_going (turn book r s).state r ≡ not (is_done (Took h)))
+        (h : Ending) × ((turn book r s).turns ≡ Some h ∷ []) × (is_going (turn book r s).state r ≡ not (is_done (Some h)))
     turn_out = let e = turn_taken book r s going in (all.ending, ap (λ p. p.turns) e, ap (λ p. is_going p.state r) e ∙ out)
 
     pub turn_continues :

@@ -7,7 +7,7 @@ use mathlib.Core.Bool.{Bool, true, false, not}
 use mathlib.Core.List.{List, [], ◌∷◌}
 use mathlib.Core.Logic.{◌≢◌}
 use native.Mathlib.Omega.{arith}
-use Rattle.std.specs.Prelude.{if◌then◌else◌}
+use Rattle.std.specs.Prelude.{if◌then◌else◌, Some}
 use Rattle.numbers.specs.Counting.{how_many}
 use Rattle.layout.specs.Layout.{routines_of, counts_of}
 use Rattle.directory.specs.Directory.{routine_steps}
@@ -16,7 +16,6 @@ use Rattle.game.specs.Game.{routine_at}
 use Rattle.round.specs.declared.Ending.{Ending}
 use Rattle.round.specs.declared.Position.{Position}
 use Rattle.round.specs.declared.Effect.{Effect}
-use Rattle.round.specs.declared.Turn.TheVariants.{Took}
 use Rattle.round.specs.State.{State, Thing, Event, ended, missing, completed}
 use Rattle.round.specs.Actions.{position_of}
 use Rattle.round.specs.Ticks.{fresh}
@@ -38,7 +37,7 @@ use Rattle.round.proofs.Turned.{turn_turned}
 -- what is left behind steps that end so, n being left at the position reached: a turn that is to be continued goes on from there in this
 -- round, and no other does
 abbrev left_behind : Ending → ℕ → ℕ
-left_behind how n = if not (is_done (Took how)) then n else 0
+left_behind how n = if not (is_done (Some how)) then n else 0
 
 -- what routine r has before it in a state of a round, where left says it of a routine at a position
 abbrev pub worth : (ℕ → Position → ℕ) → ℕ → State → ℕ

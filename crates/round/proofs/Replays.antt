@@ -7,10 +7,9 @@ use mathlib.Core.Bool.{◌&&◌, not}
 use mathlib.Core.List.{List, [], ◌∷◌, ◌++◌}
 use lib.Dec.{eqb}
 use lib.IntN.{ℤ}
+use Rattle.std.specs.Prelude.{Option, Some, None}
 use Rattle.numbers.specs.Numbers.{count_of}
 use Rattle.kinds.specs.declared.Kind.{Kind}
-use Rattle.kinds.specs.declared.Step.{Step}
-use Rattle.kinds.specs.declared.Step.TheVariants as step
 use Rattle.kinds.specs.Steps.{field_a, field_b, field_n, step_at}
 use Rattle.kinds.proofs.Rows.{◌and◌, Kinds, kind_holds}
 use Rattle.layout.specs.Layout.{counts_of}
@@ -112,15 +111,15 @@ module _ (book : List ℕ) where
 
     -- what the step there comes to, or the routine's end where none stands
     step_agrees :
-        (st : Step) → step_at (counts_of book) steps x.place ≡ st → at_step TickAgrees steps x.place (tick_at r steps x s st)
+        (st : Option Kind) → step_at (counts_of book) steps x.place ≡ st → at_step TickAgrees steps x.place (tick_at r steps x s st)
     unfolding contents_after
-    step_agrees (step.Kind k) e =
+    step_agrees (Some k) e =
         let p = x.place in
         let a = field_a steps p in
         let b = field_b steps p in
         let n = field_n steps p in
         kind_holds (λ op (k : Kind). TickAgrees op a b n (tick_of r steps x s k)) (counts_of book) steps p (table_agrees a b n) e
-    step_agrees step.Refused e = refl
+    step_agrees None e = refl
 
     pub tick_agrees : {t : Tick} → tick (counts_of book) r steps x s ≡ t → at_step TickAgrees steps x.place t
     unfolding tick

@@ -4,6 +4,7 @@ use Prim.Native.Nat.{ℕ}
 use mathlib.Core.Path.{◌≡◌, refl}
 use mathlib.Core.Bool.{true, false}
 use mathlib.Core.List.{List, [], ◌∷◌, ◌++◌, append_assoc}
+use Rattle.std.specs.Prelude.{Some}
 use Rattle.numbers.specs.Counting.{how_many}
 use Rattle.numbers.proofs.Tests.{clash}
 use Rattle.kinds.specs.declared.Counts.{Counts}
@@ -11,7 +12,6 @@ use Rattle.kinds.specs.Steps.{step_at}
 use Rattle.round.specs.declared.Ending.{Ending}
 use Rattle.round.specs.declared.Ending.TheVariants.{Continued}
 use Rattle.round.specs.declared.Position.{Position}
-use Rattle.round.specs.declared.Turn.TheVariants.{Took}
 use Rattle.round.specs.State.{State, Thing, Event, missing, completed, is_there}
 use Rattle.round.specs.Rounds.{Ticks, ticks, is_done}
 use Rattle.round.specs.claims.Enough.{InTime}
@@ -38,7 +38,7 @@ module _ (counts : Counts) (r : ℕ) (steps : List ℕ) where
   -- a last step whose turn is to be continued asks for a thing that is missing, and leaves its routine where it stands
   pub stops_continued :
       {x : Position} {s : State} {how : Ending} {y : Position} {events : List Event} → Stops counts r steps x s how y events →
-      is_done (Took how) ≡ false →
+      is_done (Some how) ≡ false →
       (t : Thing) × Asks x (step_at counts steps x.place) t × (is_there s t ≡ false) × (s.eoi ≡ false) × (how ≡ Continued) × (y ≡ x) ×
       (events ≡ missing r x.place t ∷ [])
   stops_continued ends d = clash refl d
@@ -49,7 +49,7 @@ module _ (counts : Counts) (r : ℕ) (steps : List ℕ) where
   -- any other finds nothing missing, but where the round is being closed
   pub stops_calm :
       {x : Position} {s : State} {how : Ending} {y : Position} {events : List Event} → Stops counts r steps x s how y events →
-      is_done (Took how) ≡ true → s.eoi ≡ false → how_many is_miss events ≡ 0
+      is_done (Some how) ≡ true → s.eoi ≡ false → how_many is_miss events ≡ 0
   unfolding how_many
   stops_calm ends d e = refl
   stops_calm rests d e = refl

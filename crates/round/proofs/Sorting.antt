@@ -11,15 +11,13 @@ use lib.Dec.{eqb}
 use lib.ListN.{get_or}
 use lib.IntN.{ℤ, pos}
 use lib.Signed.{le_z_yes}
-use Rattle.std.specs.Prelude.{if◌then◌else◌}
+use Rattle.std.specs.Prelude.{if◌then◌else◌, Option, Some, None}
 use Rattle.numbers.specs.Numbers.{CounterInRange, sum_of, relation_of}
 use Rattle.numbers.specs.Sums.{AddsUp, within, above, below}
 use Rattle.numbers.proofs.Sums.{adds_up, most_lost_by_one, lost_by_one}
 use Rattle.numbers.proofs.Tests.{by_test}
 use Rattle.kinds.specs.declared.Kind.{Kind}
 use Rattle.kinds.specs.declared.Kind.TheVariants as kind
-use Rattle.kinds.specs.declared.Step.{Step}
-use Rattle.kinds.specs.declared.Step.TheVariants as step
 use Rattle.kinds.specs.declared.Counts.{Counts}
 use Rattle.forms.specs.declared.Form.TheVariants.{Plain, IfOpening, ElseMarker, WhileOpening, EndMarker}
 use Rattle.kinds.specs.Steps.{op_at, step_at, steps_in}
@@ -67,7 +65,7 @@ begun_by false left n some none = absurd (some none)
 -- routine r stands at position x
 module _ (counts : Counts) (r : ℕ) (steps : List ℕ) (x : Position) (s : State) where
   abbrev There : Kind → Type 0
-  There k = step_at counts steps x.place ≡ step.Kind k
+  There k = step_at counts steps x.place ≡ Some k
 
   form_there : {k : Kind} → There k → form_at counts steps x.place ≡ stands (form_of k)
   form_there e = view_seen counts steps (steps_in steps) x.place (step_below counts steps x.place e) ∙ ap seen e
@@ -139,9 +137,9 @@ module _ (counts : Counts) (r : ℕ) (steps : List ℕ) (x : Position) (s : Stat
       (edge (stands WhileOpening) (form_there e) refl test, nothing, silent refl (rw (op_there e)))
   kind_sorted kind.End e f = (edge (stands EndMarker) (form_there e) refl true, nothing, silent refl (rw (op_there e)))
 
-  step_sorted : (st : Step) → step_at counts steps x.place ≡ st → SortedTick counts r steps x s (tick_at r steps x s st)
-  step_sorted (step.Kind k) e = kind_sorted k e (fields_right counts steps x.place k e)
-  step_sorted step.Refused e = (λ h. fresh_stands counts steps (steps_in steps) (omega arith), ends)
+  step_sorted : (st : Option Kind) → step_at counts steps x.place ≡ st → SortedTick counts r steps x s (tick_at r steps x s st)
+  step_sorted (Some k) e = kind_sorted k e (fields_right counts steps x.place k e)
+  step_sorted None e = (λ h. fresh_stands counts steps (steps_in steps) (omega arith), ends)
 
 pub sorted :
     (counts : Counts) (r : ℕ) (steps : List ℕ) (x : Position) (s : State) → SortedTick counts r steps x s (tick counts r steps x s)

@@ -9,8 +9,8 @@ use mathlib.Core.Logic.{◌⊎◌, inl, inr}
 use native.Mathlib.Omega.{arith}
 use borrow.Author.Tests.{eq-eqb, ne_eqb}
 use lib.Dec.{eqb}
-use Rattle.std.specs.Prelude.{if◌then◌else◌}
-use Rattle.kinds.specs.declared.Step.{Step}
+use Rattle.std.specs.Prelude.{if◌then◌else◌, Option}
+use Rattle.kinds.specs.declared.Kind.{Kind}
 use Rattle.forms.specs.Timed.{Timed, rest_for, wait_for, join_for}
 use Rattle.game.specs.Game.{rested}
 use Rattle.round.specs.declared.Ending.{Ending}
@@ -45,7 +45,7 @@ module _ (x : Position) (k : ℕ) where
 
 module _ (r : ℕ) (steps : List ℕ) (x : Position) (s : State) where
   by_shape :
-      {st : Step} {n : ℕ} (timed : Timed st n) (how : Ending) → stage_after how ≡ rested →
+      {st : Option Kind} {n : ℕ} (timed : Timed st n) (how : Ending) → stage_after how ≡ rested →
       (tick_at r steps x s st).act ≡ shape x (count_at x n) (has_thing s timed || eqb (count_at x n) 0) (is_pausing s timed) how →
       TimedTick r steps x s timed
   by_shape {n = n} timed how stage e =
@@ -66,7 +66,7 @@ module _ (r : ℕ) (steps : List ℕ) (x : Position) (s : State) where
   unfolding waits_for
   waits_shape t k = waiting x k (is_there s t) (eqb k 0) s.eoi (past r x.place t ∷ []) (missing r x.place t ∷ [])
 
-  pub timed_tick : {st : Step} {n : ℕ} (timed : Timed st n) → TimedTick r steps x s timed
+  pub timed_tick : {st : Option Kind} {n : ℕ} (timed : Timed st n) → TimedTick r steps x s timed
   unfolding tick_of
   timed_tick rest_for = by_shape rest_for Rested refl refl
   timed_tick (wait_for {e} {n}) = by_shape wait_for Missed refl (waits_shape (signal e) (count_at x n))

@@ -8,6 +8,7 @@ use mathlib.Core.List.{List, [], ◌∷◌, ◌++◌}
 use mathlib.Core.Logic.{◌≢◌}
 use native.Mathlib.Omega.{arith}
 use lib.Dec.{eqb}
+use Rattle.std.specs.Prelude.{Some}
 use Rattle.numbers.specs.Counting.{how_many, Somewhere}
 use Rattle.kinds.specs.Steps.{step_at}
 use Rattle.layout.specs.Layout.{counts_of}
@@ -18,7 +19,6 @@ use Rattle.game.specs.Game.{continuing, routine_at}
 use Rattle.round.specs.declared.Ending.{Ending}
 use Rattle.round.specs.declared.Ending.TheVariants.{Continued}
 use Rattle.round.specs.declared.Position.{Position}
-use Rattle.round.specs.declared.Turn.TheVariants.{Took}
 use Rattle.round.specs.State.{State, Thing, Event, missing, is_there}
 use Rattle.round.specs.Actions.{position_of}
 use Rattle.round.specs.Rounds.{not_taken, is_done, for_next_pass, turn}
@@ -112,7 +112,7 @@ module _ (book : List ℕ) where
     pub over : (r : ℕ) (s : State) → Listed r → Ok s → is_going s r ≡ false → turn book r s ≡ not_taken s
     pub out :
         (r : ℕ) (s : State) → Listed r → Ok s → is_going s r ≡ true →
-        (h : Ending) × ((turn book r s).turns ≡ Took h ∷ []) × (is_going (turn book r s).state r ≡ not (is_done (Took h)))
+        (h : Ending) × ((turn book r s).turns ≡ Some h ∷ []) × (is_going (turn book r s).state r ≡ not (is_done (Some h)))
     -- a turn that is to be continued ends by a missing thing, and there is none once the round is being closed
     pub continues :
         (r : ℕ) (s : State) → Listed r → Ok s → is_going s r ≡ true → is_going (turn book r s).state r ≡ true →
@@ -126,7 +126,7 @@ module _ (book : List ℕ) where
         (turn book r s).trace ≡ missing r p t ∷ []
     pub unchanged :
         (r p : ℕ) (t : Thing) (s : State) → Listed r → Ok s → is_going s r ≡ true → Waits s r p t → is_there s t ≡ false → s.eoi ≡ false →
-        turn book r s ≡ record { state = s; trace = missing r p t ∷ []; turns = Took Continued ∷ [] }
+        turn book r s ≡ record { state = s; trace = missing r p t ∷ []; turns = Some Continued ∷ [] }
     pub goes_past :
         (r p : ℕ) (t : Thing) (s : State) → Listed r → Ok s → is_going s r ≡ true → Waits s r p t → is_there s t ≡ true →
         IsPast r p t (turn book r s).trace

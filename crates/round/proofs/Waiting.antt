@@ -8,18 +8,18 @@ use mathlib.Core.List.{List, [], ◌∷◌, ◌++◌}
 use mathlib.Core.Logic.{◌⊎◌, inl, inr, ◌≢◌}
 use native.Mathlib.Decide.{ℕ_discrete}
 use native.Mathlib.Omega.{arith}
+use Rattle.std.specs.Prelude.{Option, Some}
 use Rattle.numbers.specs.Counting.{All, Among}
 use Rattle.numbers.proofs.Tests.{and_both, not_true_false, by_flag}
 use Rattle.numbers.proofs.Tests.{clash}
-use Rattle.round.specs.declared.Turn.{Turn}
-use Rattle.round.specs.declared.Turn.TheVariants.{Took}
+use Rattle.round.specs.declared.Ending.{Ending}
 use Rattle.round.specs.State.{State, Event}
 use Rattle.round.specs.Rounds.{PlayedTurns, followed_by, is_done, all_done, turn, pass}
 use Rattle.round.proofs.Along.{pass_along}
 use Rattle.round.proofs.Traces.{moves_append, nothing_comes}
 use Rattle.round.proofs.TurnLaws.{is_going, moves, Passed, passed_same, others_going, waits_too, WaitsForMissing, TurnLaws}
 
-pub done_append : (a b : List Turn) → all_done (a ++ b) ≡ (all_done a && all_done b)
+pub done_append : (a b : List (Option Ending)) → all_done (a ++ b) ≡ (all_done a && all_done b)
 unfolding all_done
 done_append [] b = refl
 done_append (t ∷ a) b = ap (λ d. is_done t && d) (done_append a b) ∙ sym (and_assoc (is_done t) (all_done a) (all_done b))
@@ -76,7 +76,7 @@ module _ {book : List ℕ} {Listed : ℕ → Type 0} {Ok : State → Type 0} (la
       by_flag (is_going s r)
       (λ g.
       let (h, e, i) = laws.out r s l k g in
-      ap all_done e ∙ and-true (is_done (Took h)) ∙ sym (not-not (is_done (Took h))) ∙ sym (ap not i))
+      ap all_done e ∙ and-true (is_done (Some h)) ∙ sym (not-not (is_done (Some h))) ∙ sym (ap not i))
       (λ g. subst (λ (p : PlayedTurns). all_done p.turns ≡ not (is_going p.state r)) (sym (laws.over r s l k g)) (sym (ap not g)))
 
   -- a turn leaves nobody going who was not

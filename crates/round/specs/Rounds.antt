@@ -1,6 +1,6 @@
 -- A turn, a pass and a round: rules 33 to 38. Document 01: "round = one chaining step and then one instant, pass = one scheduler execution
 -- step (rules 35 and 36)".
-use Rattle.std.specs.Prelude.{ℕ, zero, suc, ◌+◌, Bool, true, false, ◌&&◌, ◌||◌, not, List, [], ◌∷◌, ◌++◌, eqb, set, if◌then◌else◌}
+use Rattle.std.specs.Prelude.{ℕ, zero, suc, ◌+◌, Bool, true, false, ◌&&◌, ◌||◌, not, List, [], ◌∷◌, ◌++◌, eqb, set, if◌then◌else◌, Option, Some, None}
 use Rattle.kinds.specs.declared.Counts.{Counts}
 use Rattle.kinds.specs.Steps.{steps_in}
 use Rattle.layout.specs.Layout.{most_routines, most_steps, counts_of}
@@ -14,8 +14,6 @@ use Rattle.round.specs.declared.Ending.TheVariants.{Ended, Rested, Missed, Conti
 use Rattle.round.specs.declared.Position.{Position}
 use Rattle.round.specs.declared.Act.{Act}
 use Rattle.round.specs.declared.Act.TheVariants.{Goes, Halts}
-use Rattle.round.specs.declared.Turn.{Turn}
-use Rattle.round.specs.declared.Turn.TheVariants.{PassedOver, Took}
 use Rattle.round.specs.State.{State, with_game, with_end_signals, with_moves, Event, completed}
 use Rattle.round.specs.Actions.{position_of, placed, at_start}
 use Rattle.round.specs.Ticks.{tick, fresh, effect_on}
@@ -74,33 +72,33 @@ after_turn r t =
     let g = t.state.game in
     with_end t.ending r (with_game t.state (with_routine g r (behind_turn (routine_at g r) t.ending t.position)))
 
--- some turns: the state behind them, what happened, and how each came out
+-- some turns: the state behind them, what happened, and how each ended, None where the routine was passed over
 pub record PlayedTurns : Type 0 where
   pub state : State
   pub trace : List Event
-  pub turns : List Turn
+  pub turns : List (Option Ending)
 
 -- rule 33, "Nothing is done": the routine is passed over, and the state stays s
 abbrev pub not_taken : State → PlayedTurns
-not_taken s = record { state = s; trace = []; turns = PassedOver ∷ [] }
+not_taken s = record { state = s; trace = []; turns = None ∷ [] }
 
 -- rule 34: routine r takes these steps; behind them its stage, end signal and the move flag are set (after_turn)
 abbrev pub taken : ℕ → Ticks → PlayedTurns
-taken r t = record { state = after_turn r t; trace = t.trace; turns = Took t.ending ∷ [] }
+taken r t = record { state = after_turn r t; trace = t.trace; turns = Some t.ending ∷ [] }
 
 abbrev pub followed_by : PlayedTurns → PlayedTurns → PlayedTurns
 followed_by a b = record { state = b.state; trace = a.trace ++ b.trace; turns = a.turns ++ b.turns }
 
 -- the b of rules 33 and 34: false for CONT alone
-abbrev pub is_done : Turn → Bool
-is_done PassedOver = true
-is_done (Took Ended) = true
-is_done (Took Rested) = true
-is_done (Took Missed) = true
-is_done (Took Continued) = false
+abbrev pub is_done : Option Ending → Bool
+is_done None = true
+is_done (Some Ended) = true
+is_done (Some Rested) = true
+is_done (Some Missed) = true
+is_done (Some Continued) = false
 
 -- the b of rules 35 and 36
-unfoldable pub all_done : List Turn → Bool
+unfoldable pub all_done : List (Option Ending) → Bool
 all_done [] = true
 all_done (t ∷ ts) = is_done t && all_done ts
 

@@ -1,10 +1,8 @@
 -- One step of one routine: rules 1 to 32, in the order of document 01's table of kinds. What a step comes to stands apart from its effect.
-use Rattle.std.specs.Prelude.{ℕ, ◌+◌, ◌-◌, true, false, ◌&&◌, not, List, [], ◌∷◌, ◌++◌, eqb, length, set, ℤ, if◌then◌else◌}
+use Rattle.std.specs.Prelude.{ℕ, ◌+◌, ◌-◌, true, false, ◌&&◌, not, List, [], ◌∷◌, ◌++◌, eqb, length, set, ℤ, if◌then◌else◌, Option, Some, None}
 use Rattle.numbers.specs.Numbers.{sum_of, relation_of}
 use Rattle.kinds.specs.declared.Kind.{Kind}
 use Rattle.kinds.specs.declared.Kind.TheVariants as kind
-use Rattle.kinds.specs.declared.Step.{Step}
-use Rattle.kinds.specs.declared.Step.TheVariants as step
 use Rattle.kinds.specs.declared.Counts.{Counts}
 use Rattle.kinds.specs.Steps.{step_at, steps_in}
 use Rattle.game.specs.Game.{routine_at, counter_at, with_stop, with_suspend, with_resume, with_start, with_starting, with_counter, with_routine}
@@ -122,9 +120,9 @@ module _ (r : ℕ) (steps : List ℕ) (x : Position) (s : State) where
   ends_here = tick_with (Halts Ended (fresh (steps_in steps))) (ended r ∷ [])
 
   -- where a step stands, or none: in an accepted book only the place behind a routine's last step has none
-  abbrev pub tick_at : Step → Tick
-  tick_at (step.Kind k) = tick_of k
-  tick_at step.Refused = ends_here
+  abbrev pub tick_at : Option Kind → Tick
+  tick_at (Some k) = tick_of k
+  tick_at None = ends_here
 
 unfoldable pub tick : Counts → ℕ → List ℕ → Position → State → Tick
 tick counts r steps x s = tick_at r steps x s (step_at counts steps x.place)

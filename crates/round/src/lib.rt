@@ -13,6 +13,8 @@ pub enum Ending {
 }
 
 // Where a routine stands: its place, begun or not, and the count left.
+// begun and left are no Option: a turn leaves both in game::Routine, which C reads, and a count left even where
+// nothing is begun (`behind_turn`).
 #[derive(Clone, Copy)]
 pub struct Position {
     pub place: usize,
@@ -37,15 +39,9 @@ pub enum Effect {
 }
 
 // What a step comes to: the turn goes on at a place once the effect is there, or it ends and leaves the routine at a position.
+// No Result: neither is a failure, and the definition `tick_of` answers these two cases.
 #[derive(Clone, Copy)]
 pub enum Act {
     Goes(usize, Effect),
     Halts(Ending, Position),
-}
-
-// What a pass does with one listed routine: it is passed over, or it takes a turn, which ends so.
-#[derive(Clone, Copy)]
-pub enum Turn {
-    PassedOver,
-    Took(Ending),
 }

@@ -1,7 +1,7 @@
 #![tactic(auto)]
 // Plays the book of the standard input and prints its rounds with their marks, or why the book is refused.
 use play_listing::{LONGEST_BOOK, LONGEST_LISTING, list_whole};
-use texts::print;
+use texts::Text;
 use words::part;
 
 // Of a longer input one byte more than a longest book has is read: it is refused as its first bytes say.
@@ -9,7 +9,7 @@ const MOST_BYTES: usize = LONGEST_BOOK + 1;
 
 fn print_play(book: &[u8], listing: &mut [u8; LONGEST_LISTING]) {
     let used = list_whole(book, listing);
-    print(listing, used);
+    Text { out: listing, used }.print();
 }
 
 fn main() {

@@ -10,12 +10,10 @@ use native.Mathlib.Numerals.{add-one}
 use native.Mathlib.Omega.{arith}
 use lib.Dec.{eqb}
 use lib.IntN.{ℤ}
-use Rattle.std.specs.Prelude.{if◌then◌else◌}
+use Rattle.std.specs.Prelude.{if◌then◌else◌, Option, Some}
 use Rattle.numbers.specs.Numbers.{relation_of}
 use Rattle.numbers.proofs.Relations.{relation_holds, relation_fails}
 use Rattle.kinds.specs.declared.Kind.{Kind}
-use Rattle.kinds.specs.declared.Step.{Step}
-use Rattle.kinds.specs.declared.Step.TheVariants as step
 use Rattle.kinds.specs.declared.Counts.{Counts}
 use Rattle.forms.specs.declared.Form.TheVariants.{Plain, Pausing, IfOpening, ElseMarker, WhileOpening, EndMarker}
 use Rattle.kinds.specs.Steps.{step_at}
@@ -46,16 +44,16 @@ use Rattle.rules.proofs.Places.{both_at, both_first, both_second}
 use Rattle.rules.proofs.Outcomes.{Run, OfStep, stops, rests, over, OfBlock, within, passes, onward, leaf_ends, block_as, step_as}
 
 module _ (counts : Counts) (r : ℕ) (steps : List ℕ) (few : counts.routines ≤ most_routines) where
-  abbrev step_of : ℕ → Step
+  abbrev step_of : ℕ → Option Kind
   step_of = step_at counts steps
 
   abbrev at : ℕ → View
   at = form_at counts steps
 
   tick_at_lem :
-      {k : Kind} {p : ℕ} (x : Position) (s : State) → x.place ≡ p → step_of p ≡ step.Kind k → tick counts r steps x s ≡ tick_of r steps x s k
+      {k : Kind} {p : ℕ} (x : Position) (s : State) → x.place ≡ p → step_of p ≡ Some k → tick counts r steps x s ≡ tick_of r steps x s k
   unfolding tick
-  tick_at_lem x s l e = ap (λ (a : Step). tick_at r steps x s a) (ap step_of l ∙ e)
+  tick_at_lem x s l e = ap (λ (a : Option Kind). tick_at r steps x s a) (ap step_of l ∙ e)
 
   -- the step at x leads to q, and changes nothing and has no event
   abbrev JustLeads : Position → State → ℕ → Type 0

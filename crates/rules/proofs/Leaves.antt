@@ -10,13 +10,13 @@ use native.Mathlib.Decide.{dec_le}
 use native.Mathlib.Numerals.{add-one}
 use borrow.Author.Tests.{eqb-true, eqb-false}
 use lib.Dec.{eqb}
+use Rattle.std.specs.Prelude.{Some}
 use Rattle.numbers.specs.Numbers.{sum_of}
 use Rattle.numbers.proofs.Sums.{adds_up}
 use Rattle.numbers.proofs.Tests.{clash, and_both, by_test}
 use Rattle.layout.specs.Layout.{most_routines}
 use Rattle.kinds.specs.declared.Kind.{Kind}
 use Rattle.kinds.specs.declared.Kind.TheVariants as kind
-use Rattle.kinds.specs.declared.Step.TheVariants as step
 use Rattle.kinds.specs.declared.Counts.{Counts}
 use Rattle.forms.specs.declared.Form.{Form}
 use Rattle.forms.specs.declared.Form.TheVariants.{Plain, Pausing}
@@ -199,7 +199,7 @@ module _ (counts : Counts) (r : ℕ) (steps : List ℕ) where
       counts.routines ≤ most_routines →
       (p : ℕ) → (form_at counts steps p ≡ stands Plain) ⊎ (form_at counts steps p ≡ stands Pausing) →
       (k : Kind)
-      × (step_at counts steps p ≡ step.Kind k)
+      × (step_at counts steps p ≡ Some k)
       × ((x : Position) (s : State) (ms : Marks) → ByRule k x s ms (tick_of r steps x s k))
   leaf_at few p h =
       let (k, e, leaf) = leaf_there counts steps p h in

@@ -4,13 +4,13 @@ use Prim.Native.Nat.{ℕ}
 use mathlib.Core.Path.{◌≡◌, ◌∙◌, ap}
 use mathlib.Core.Bool.{true, false, not}
 use mathlib.Core.List.{List}
+use Rattle.std.specs.Prelude.{Some}
 use Rattle.numbers.proofs.Tests.{clash}
 use Rattle.directory.specs.Directory.{step_count}
 use Rattle.game.specs.declared.Game.{Game}
 use Rattle.game.specs.Game.{routine_at}
 use Rattle.round.specs.declared.Ending.{Ending}
 use Rattle.round.specs.declared.Position.{Position}
-use Rattle.round.specs.declared.Turn.TheVariants.{Took}
 use Rattle.round.specs.Actions.{position_of}
 use Rattle.round.specs.Ticks.{fresh}
 use Rattle.round.specs.Rounds.{is_done}
@@ -32,7 +32,7 @@ module _ (book : List ℕ) (r : ℕ) where
   -- behind a turn of its own
   pub shows_behind :
       (s u : Game) {size : ℕ} {y : Position} {h : Ending} {α : Status} → size ≡ step_count book r → Shows size y h α →
-      position_of (routine_at u r) ≡ y → takes_turn (routine_at u r) ≡ not (is_done (Took h)) → Behind (executed α) s u
+      position_of (routine_at u r) ≡ y → takes_turn (routine_at u r) ≡ not (is_done (Some h)) → Behind (executed α) s u
   shows_behind s u all (ends_as e) place on = place ∙ e ∙ ap fresh all
   shows_behind s u all (rests_as w e) place on = place ∙ e
   shows_behind s u all (misses_as w e) place on = place ∙ e

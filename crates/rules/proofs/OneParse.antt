@@ -7,8 +7,9 @@ use mathlib.Core.List.{List}
 use mathlib.Core.Logic.{dite}
 use native.Mathlib.Decide.{dec_lt}
 use native.Mathlib.Omega.{arith}
+use Rattle.std.specs.Prelude.{Option}
 use Rattle.numbers.proofs.Tests.{clash}
-use Rattle.kinds.specs.declared.Step.{Step}
+use Rattle.kinds.specs.declared.Kind.{Kind}
 use Rattle.kinds.specs.Steps.{step_at}
 use Rattle.blocks.specs.Blocks.{View}
 use Rattle.blocks.specs.Parse.{ParsedBlock, empty, more, ParsedStep, plain, pausing, if_only, if_else, loop}
@@ -39,7 +40,7 @@ module _ {at : ℕ → View} where
   no_step (if_else h b k c j) t e = clash (rw (e, h) at t) refl
   no_step (loop h b k) t e = clash (rw (e, h) at t) refl
 
-module _ (r : ℕ) (step_of : ℕ → Step) {at : ℕ → View} (x : Position) where
+module _ (r : ℕ) (step_of : ℕ → Option Kind) {at : ℕ → View} (x : Position) where
   abbrev block_reading : {d p e : ℕ} → ParsedBlock at d p e → Reading
   block_reading {e = e} b = reads e (of_block r step_of b) (left_of_block r step_of b x)
 

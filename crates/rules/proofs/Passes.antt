@@ -13,7 +13,7 @@ use native.Mathlib.Numerals.{add-one}
 use borrow.Author.Tests.{eq-eqb, ne_eqb}
 use lib.Dec.{eqb}
 use lib.ListN.{length}
-use Rattle.std.specs.Prelude.{if◌then◌else◌}
+use Rattle.std.specs.Prelude.{if◌then◌else◌, Some}
 use Rattle.numbers.specs.Counting.{All}
 use Rattle.numbers.proofs.Tests.{clash}
 use Rattle.kinds.specs.Steps.{steps_in}
@@ -27,7 +27,6 @@ use Rattle.game.specs.Game.{routine_at}
 use Rattle.game.specs.Game as game
 use Rattle.round.specs.declared.Ending.{Ending}
 use Rattle.round.specs.declared.Position.{Position}
-use Rattle.round.specs.declared.Turn.TheVariants.{Took}
 use Rattle.round.specs.State.{State}
 use Rattle.round.specs.Actions.{position_of}
 use Rattle.round.specs.Rounds.{Ticks, most_ticks, after_turn, PlayedTurns, not_taken, taken, all_done, for_next_pass, ticks_of, turn, pass}
@@ -63,7 +62,7 @@ use Rattle.rules.proofs.Routines.{routine_by_rules}
 use Rattle.rules.proofs.Left.{Behind, shows_behind, behind_then}
 
 -- b of rule 34
-done_turn : {size : ℕ} {y : Position} {h : Ending} {α : Status} → Shows size y h α → is_finished (executed α) ≡ all_done (Took h ∷ [])
+done_turn : {size : ℕ} {y : Position} {h : Ending} {α : Status} → Shows size y h α → is_finished (executed α) ≡ all_done (Some h ∷ [])
 unfolding all_done
 done_turn (ends_as e) = refl
 done_turn (rests_as w e) = refl

@@ -4,7 +4,8 @@ use Prim.Native.Nat.{ℕ, suc, ◌≤◌, ◌<◌}
 use mathlib.Core.Path.{◌≡◌, refl, ap, ◌∙◌}
 use native.Mathlib.Omega.{arith}
 use borrow.Author.Tests.{lt-ltb, le-ltb, eq-eqb, ne_eqb}
-use Rattle.kinds.specs.declared.Step.{Step}
+use Rattle.std.specs.Prelude.{Option}
+use Rattle.kinds.specs.declared.Kind.{Kind}
 use Rattle.forms.specs.declared.Form.TheVariants.{IfOpening, ElseMarker, WhileOpening, EndMarker}
 use Rattle.blocks.specs.Blocks.{View, stands}
 use Rattle.blocks.specs.Parse.{ParsedBlock, empty, more, ParsedStep, plain, pausing, if_only, if_else, loop}
@@ -15,7 +16,7 @@ use Rattle.rules.specs.Instructions.{Instruction, nothing, ◌then◌, while, wh
 use Rattle.rules.specs.Instructions as paper
 use Rattle.rules.specs.Residual.{test_of, of_block, of_step, left_of_block, left_of_step}
 
-module _ (r : ℕ) (step_of : ℕ → Step) {at : ℕ → View} where
+module _ (r : ℕ) (step_of : ℕ → Option Kind) {at : ℕ → View} where
   -- at its start the whole of it is left
   mutual
     pub block_start : {d p e : ℕ} (b : ParsedBlock at d p e) → left_of_block r step_of b (fresh p) ≡ of_block r step_of b

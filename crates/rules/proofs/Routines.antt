@@ -3,7 +3,8 @@
 use Prim.Native.Nat.{ℕ, ◌<◌, ◌≤◌}
 use mathlib.Core.Path.{◌≡◌, refl, sym, subst}
 use mathlib.Core.List.{List}
-use Rattle.kinds.specs.declared.Step.{Step}
+use Rattle.std.specs.Prelude.{Option}
+use Rattle.kinds.specs.declared.Kind.{Kind}
 use Rattle.kinds.specs.Steps.{step_at, steps_in}
 use Rattle.blocks.specs.Blocks.{View, view_at, deepest}
 use Rattle.blocks.specs.Parse.{ParsedBlock}
@@ -25,7 +26,7 @@ module _ (book : List ℕ) (a : Accepted book) (r : ℕ) (h : r < routines_of bo
   abbrev steps : List ℕ
   steps = routine_steps book r
 
-  abbrev step_of : ℕ → Step
+  abbrev step_of : ℕ → Option Kind
   step_of = step_at (counts_of book) steps
 
   -- a parse of the same places that leaves the same everywhere

@@ -4,7 +4,8 @@ use Prim.Native.Nat.{ℕ, ◌≤◌}
 use mathlib.Core.Path.{◌≡◌, sym, ap, ◌∙◌}
 use mathlib.Core.List.{List}
 use native.Mathlib.Omega.{arith}
-use Rattle.kinds.specs.declared.Step.{Step}
+use Rattle.std.specs.Prelude.{Option}
+use Rattle.kinds.specs.declared.Kind.{Kind}
 use Rattle.kinds.specs.declared.Counts.{Counts}
 use Rattle.kinds.specs.Steps.{step_at, steps_in}
 use Rattle.kinds.proofs.Readable.{step_missing}
@@ -38,7 +39,7 @@ pub record RunsTo (size : ℕ) (h : Ending) (y : Position) (i : Instruction) (σ
   pub leaves : after ⇝ left
 
 module _ (counts : Counts) (r : ℕ) (steps : List ℕ) where
-  abbrev step_of : ℕ → Step
+  abbrev step_of : ℕ → Option Kind
   step_of = step_at counts steps
 
   abbrev at : ℕ → View
@@ -48,7 +49,7 @@ module _ (counts : Counts) (r : ℕ) (steps : List ℕ) where
     -- behind the last step the routine ends
     halts_ended : (x : Position) (s : State) → x.place ≡ steps_in steps → (tick counts r steps x s).act ≡ Halts Ended (fresh (steps_in steps))
     unfolding tick
-    halts_ended x s l = ap (λ (a : Step). (tick_at r steps x s a).act) (step_missing counts steps x.place (omega arith))
+    halts_ended x s l = ap (λ (a : Option Kind). (tick_at r steps x s a).act) (step_missing counts steps x.place (omega arith))
 
     module _ (h : Ending) (y : Position) (u : State) (us : Marks) {d : ℕ} (b : ParsedBlock at d 0 (steps_in steps)) where
       -- to what is left of the routine at y

@@ -2,11 +2,9 @@
 -- Document 01: "A place on an else stands for the end of the first block, on a while's end for its next test.", "Op 6, or a reading that
 -- stayed missing, leaves the place on the step that follows it in the book; every other pause leaves it on its own step. An ended routine's
 -- place is its step count. Begun is set when op 7, 9 or 11 pauses, and cleared when that step is past."
-use Rattle.std.specs.Prelude.{ℕ, ◌<◌, List, eqb, ltb, pos, if◌then◌else◌}
+use Rattle.std.specs.Prelude.{ℕ, ◌<◌, List, eqb, ltb, pos, if◌then◌else◌, Option, Some, None}
 use Rattle.kinds.specs.declared.Kind.{Kind}
 use Rattle.kinds.specs.declared.Kind.TheVariants as kind
-use Rattle.kinds.specs.declared.Step.{Step}
-use Rattle.kinds.specs.declared.Step.TheVariants as step
 use Rattle.kinds.specs.Steps.{step_at}
 use Rattle.blocks.specs.Blocks.{View}
 use Rattle.blocks.specs.Parse.{ParsedBlock, empty, more, ParsedStep, plain, pausing, if_only, if_else, loop}
@@ -44,9 +42,9 @@ instruction r x kind.Else = nothing
 instruction r x (kind.While c relation n) = nothing
 instruction r x kind.End = nothing
 
-abbrev pub instruction_of : ℕ → Position → Step → Instruction
-instruction_of r x (step.Kind k) = instruction r x k
-instruction_of r x step.Refused = nothing
+abbrev pub instruction_of : ℕ → Position → Option Kind → Instruction
+instruction_of r x (Some k) = instruction r x k
+instruction_of r x None = nothing
 
 abbrev pub no_test : Expression
 no_test = record { counter = 0; relation = 0; number = pos 0 }
@@ -75,12 +73,12 @@ test kind.Else = no_test
 test (kind.While c relation n) = record { counter = c; relation = relation; number = n }
 test kind.End = no_test
 
-abbrev pub test_of : Step → Expression
-test_of (step.Kind k) = test k
-test_of step.Refused = no_test
+abbrev pub test_of : Option Kind → Expression
+test_of (Some k) = test k
+test_of None = no_test
 
 -- routine r, whose step at each place is known
-module _ (r : ℕ) (step_of : ℕ → Step) {at : ℕ → View} where
+module _ (r : ℕ) (step_of : ℕ → Option Kind) {at : ℕ → View} where
   -- a whole block, a whole step
   abbrev mutual
     pub of_block : {d p e : ℕ} → ParsedBlock at d p e → Instruction

@@ -24,6 +24,7 @@ fn new_game(counts: Counts) -> Game
 }
 
 // Replaces a lent game by the one that a play of the book begins with. Checks 1 to 7; a refusal hands the game back as lent.
+// The verdict's number is asked for, since a match on the answer takes longer: 465 ns against 433.
 pub fn set_up(book: &[u8], game: Game) -> Outcome
     ensures { (result ≡ set_up book.now game) × GivesFitting book.now result }
 {

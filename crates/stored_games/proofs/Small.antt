@@ -7,11 +7,10 @@ use native.Mathlib.Omega.{arith}
 use lib.Dec.{leb→le}
 use lib.IntN.{ℤ, pos, negsuc}
 use lib.Signed.{◌≤ℤ◌}
+use Rattle.std.specs.Prelude.{Option, Some}
 use Rattle.numbers.specs.Numbers.{half_limit, word_limit, highest, count_of}
 use Rattle.numbers.proofs.Tests.{by_flag}
 use Rattle.kinds.specs.declared.Kind.{Kind}
-use Rattle.kinds.specs.declared.Step.{Step}
-use Rattle.kinds.specs.declared.Step.TheVariants as step
 use Rattle.kinds.specs.declared.Counts.{Counts}
 use Rattle.kinds.specs.Steps.{Row, table, field_a, field_b, field_n, step_at}
 use Rattle.kinds.proofs.Readable.{step_readable}
@@ -62,7 +61,7 @@ module _ (a b : ℕ) (n : ℤ) where
       and (λ high. omega arith)
       and tt
 
-counts_small : (counts : Counts) (steps : List ℕ) (p : ℕ) (k : Kind) → step_at counts steps p ≡ step.Kind k → kind_count k ≤ most_count
+counts_small : (counts : Counts) (steps : List ℕ) (p : ℕ) (k : Kind) → step_at counts steps p ≡ Some k → kind_count k ≤ most_count
 counts_small counts steps p k e =
     let a = field_a steps p in
     let b = field_b steps p in
@@ -70,7 +69,7 @@ counts_small counts steps p k e =
     subst (λ k. kind_count k ≤ most_count) (row_kind counts steps p e)
     (step_holds (CountIn a b n) counts steps p (table_counts a b n) e (step_readable counts steps p e).below)
 
-timed_small : {st : Step} {n : ℕ} → Timed st n → ((k : Kind) → st ≡ step.Kind k → kind_count k ≤ most_count) → n ≤ most_count
+timed_small : {st : Option Kind} {n : ℕ} → Timed st n → ((k : Kind) → st ≡ Some k → kind_count k ≤ most_count) → n ≤ most_count
 timed_small Timed.rest_for small = small _ refl
 timed_small Timed.wait_for small = small _ refl
 timed_small Timed.join_for small = small _ refl

@@ -1,7 +1,11 @@
 #![tactic(auto)]
 // The forms in which a game is kept as bytes. Document 02, Paper 2.
-ghost use Rattle.std.specs.Prelude.{◌≡◌};
-ghost use Rattle.stored_games.specs.Forms.{form1};
+ghost use Rattle.std.specs.Prelude.{◌≡◌, ◌+◌, ◌*◌, ◌<◌};
+ghost use Rattle.numbers.specs.Numbers.{half_limit};
+ghost use Rattle.stored_games.specs.Forms.{Usable, form1};
+ghost use Rattle.stored_games.specs.Stored.{game_header_bytes, counters_from, lists_from};
+
+use kinds::Counts;
 
 // The bytes of the header, of the fields of a routine's record, of a counter and of a list's count.
 pub const GAME_HEADER_BYTES: usize = 14;
@@ -15,11 +19,6 @@ pub const COUNT_BYTES: usize = 2;
 // The signals in a byte.
 pub const BYTE_BITS: usize = 8;
 
-// The number that is told of bytes that are no stored game, and of a buffer that is too short for one.
-pub const WRONG_FORM: u32 = 13;
-
-pub const SHORT_BUFFER: u32 = 14;
-
 // A form: its number, the bytes of a record and of the set of signals to broadcast, and the most signals that it holds.
 #[derive(Clone, Copy)]
 pub struct Form {
@@ -27,6 +26,13 @@ pub struct Form {
     pub recordsize: usize,
     pub setsize: usize,
     pub mostsignals: usize,
+}
+
+// A form that games are stored in and read from.
+#[derive(Clone, Copy)]
+pub struct UsableForm {
+    pub form: Form,
+    pub ghost usable: { Usable form },
 }
 
 // Where the parts of a stored game behind its records begin, and where the last one ends.
@@ -39,14 +45,42 @@ pub struct Parts {
     pub end: usize,
 }
 
+impl UsableForm {
+    // Where the record of a routine begins.
+    pub fn record_from(self, routine: usize) -> usize
+        requires { routine < half_limit }
+        ensures { result ≡ game_header_bytes + self.form.recordsize * routine }
+    {
+        GAME_HEADER_BYTES + self.form.recordsize * routine
+    }
+
+    // Where the counters begin.
+    pub fn counters_from(self, counts: Counts) -> usize
+        requires { counts.routines < half_limit }
+        ensures { result ≡ counters_from self.form counts }
+    {
+        self.record_from(counts.routines)
+    }
+
+    // Where the lists begin.
+    pub fn lists_from(self, counts: Counts) -> usize
+        requires { (counts.routines < half_limit) × (counts.counters < half_limit) }
+        ensures { result ≡ lists_from self.form counts }
+    {
+        self.counters_from(counts) + COUNTER_BYTES * counts.counters
+    }
+}
+
 // Form 1.
-pub fn form_1() -> Form
-    ensures { result ≡ form1 }
+pub fn form_1() -> UsableForm
+    ensures { result.form ≡ form1 }
 {
-    Form {
-        number: 1,
-        recordsize: 8,
-        setsize: 8,
-        mostsignals: 64,
+    UsableForm {
+        form: Form {
+            number: 1,
+            recordsize: 8,
+            setsize: 8,
+            mostsignals: 64,
+        },
     }
 }

@@ -8,6 +8,7 @@ use native.Mathlib.Omega.{arith}
 use lib.Dec.{lit<}
 use lib.ListN.{get_or}
 use Rattle.std.specs.Prelude.{if◌then◌else◌}
+use Rattle.std.specs.Int.{from_bool}
 use Rattle.numbers.specs.Counting.{list_below}
 use Rattle.numbers.proofs.Left.{more_left}
 use Rattle.numbers.proofs.Lists.{below_length, values_same}
@@ -15,6 +16,11 @@ use Rattle.stored_games.specs.Bits.{from_bits}
 use Rattle.stored_games.specs.Forms.{byte_bits}
 use Rattle.stored_games.specs.Stored.{set_byte}
 use Rattle.stored_games.proofs.Bits.{bits_small}
+
+-- a flag as the machine counts it
+pub bit_of_flag : (b : Bool) → from_bool b ≡ (if b then 1 else 0)
+bit_of_flag true = refl
+bit_of_flag false = refl
 
 pub bit_small : (b : Bool) → (if b then 1 else 0) ≤ 1
 bit_small true = omega arith

@@ -1,4 +1,5 @@
 pub mod Answers
 pub mod Flags
+pub mod Numbers
 pub mod Puts
 pub mod Room

@@ -1,121 +1,138 @@
-// The parts of a stored game, each put into a buffer from a place on. What is answered is the place behind it.
+// The parts of a stored game, each put into a buffer behind those before it.
 ghost use Rattle.std.specs.Prelude.{◌≡◌, [], ◌∷◌, ◌+◌, ◌*◌, ◌≤◌, pos, length, get_or};
-ghost use Rattle.layout.specs.Layout.{most_signals, most_counters};
+ghost use Rattle.layout.specs.Layout.{most_signals};
 ghost use Rattle.lines.specs.Lines.{most_entries, used_of};
 ghost use Rattle.numbers.specs.Bytes.{half_bytes, word_bytes, complement};
 ghost use Rattle.stored_games.specs.Bits.{joined_below};
-ghost use Rattle.stored_games.specs.Forms.{Usable};
-ghost use Rattle.stored_games.specs.Stored.{game_header_bytes, counter_bytes, count_bytes, counters_from, lists_from, length_of, game_header};
-ghost use Rattle.stored_games.specs.Stored.{fields_of, record_of, line_bytes, set_byte};
-ghost use Rattle.storing.specs.Puts.{Put, WithinLimits};
+ghost use Rattle.stored_games.specs.Stored.{game_header_bytes, counter_bytes, count_bytes, length_of, game_header};
+ghost use Rattle.stored_games.specs.Stored.{fields_of, record_of, line_bytes, set_byte, stored};
+ghost use Rattle.storing.specs.Puts.{Writes, WithinLimits};
 
 use crate::bits::{flags_of, set_byte};
-use game::Routine;
+use game::{Game, Routine};
 use kinds::Counts;
-use layout::{MOST_COUNTERS, MOST_SIGNALS};
+use layout::MOST_SIGNALS;
 use lines::{Line, used};
-use stored_games::{COUNT_BYTES, COUNTER_BYTES, FIELD_BYTES, Form, GAME_HEADER_BYTES};
+use stored_games::{COUNT_BYTES, FIELD_BYTES, GAME_HEADER_BYTES, UsableForm};
 
-// Puts bytes into a buffer that has room for them.
-fn put(out: &mut [u8], at: usize, bytes: &[u8]) -> usize
-    requires { at + length bytes.now ≤ length out.old }
-    ensures { Put at bytes.now out.old out.new result }
-{
-    let mut done: usize = 0;
-    while done < bytes.len() {
-        out[at + done] = bytes[done];
-        done += 1;
+// How many numbers 16 bits hold.
+const HALF_LIMIT: usize = 65536;
+
+// A buffer that is written from its front on, and how many of its bytes are written. The buffer is lent, so its end stands beside it.
+#[derive(Drop)]
+pub struct Writer<'a> {
+    pub out: &'a mut [u8],
+    pub end: usize,
+}
+
+impl Writer<'_> {
+    // Puts bytes behind those that are written.
+    fn put(&mut self, bytes: &[u8])
+        requires { self.old.end + length bytes.now ≤ length self.old.out.now }
+        ensures { Writes bytes.now self.old self.new }
+    {
+        let end = self.end + bytes.len();
+        self.out[self.end..end].copy_from_slice(bytes);
+        self.end = end;
     }
-    at + bytes.len()
-}
 
-// A number of 16 bits.
-fn put_half(out: &mut [u8], at: usize, n: usize) -> usize
-    requires { at + count_bytes ≤ length out.old }
-    ensures { Put at (half_bytes n) out.old out.new result }
-{
-    let bytes = [(n % 256) as u8, (n / 256 % 256) as u8];
-    put(out, at, &bytes)
-}
-
-// The 32 bits of a number in two's complement.
-fn complement_of(v: i32) -> u32
-    ensures { result ≡ complement v }
-{
-    if v < 0 {
-        4294967295 - (numbers::count(-1 - v) as u32)
-    } else {
-        numbers::count(v) as u32
+    // A number of 16 bits.
+    fn put_half(&mut self, n: usize)
+        requires { self.old.end + count_bytes ≤ length self.old.out.now }
+        ensures { Writes (half_bytes n) self.old self.new }
+    {
+        // `as` loses nothing of the remainder; try_from would give an Err to handle.
+        self.put(&((n % HALF_LIMIT) as u16).to_le_bytes());
     }
-}
 
-// The four bytes of 32 bits.
-fn word_bytes(n: u32) -> [u8; COUNTER_BYTES]
-    ensures { result ≡ word_bytes n }
-{
-    [
-        (n % 256) as u8,
-        (n / 256 % 256) as u8,
-        (n / 65536 % 256) as u8,
-        (n / 65536 / 256 % 256) as u8,
-    ]
-}
+    // The header.
+    fn put_header(&mut self, form: UsableForm, counts: Counts)
+        requires within_limits { WithinLimits counts }
+        requires in_bounds { self.old.end + game_header_bytes ≤ length self.old.out.now }
+        ensures { Writes (game_header form.form counts) self.old self.new }
+    {
+        self.put_half(form.form.number);
+        self.put_half(counts.routines);
+        self.put_half(counts.signals);
+        self.put_half(counts.counters);
+        self.put_half(GAME_HEADER_BYTES);
+        self.put_half(form.counters_from(counts));
+        self.put_half(form.lists_from(counts));
+    }
 
-// Where the counters begin.
-fn counters_from(form: Form, counts: Counts) -> usize
-    requires usable { Usable form }
-    requires within_limits { WithinLimits counts }
-    ensures { result ≡ counters_from form counts }
-{
-    GAME_HEADER_BYTES + form.recordsize * counts.routines
-}
+    // The record of a routine.
+    #[tactic(auto, unfolding(stored_games::specs::Stored::record_of))]
+    fn put_record(&mut self, form: UsableForm, x: Routine)
+        requires { self.old.end + form.form.recordsize ≤ length self.old.out.now }
+        ensures { Writes (record_of form.form x) self.old self.new }
+    {
+        let fields = fields_of(x);
+        let size = form.form.recordsize;
+        self.put(&fields[0..size]);
+    }
 
-// Where the lists begin.
-fn lists_from(form: Form, counts: Counts) -> usize
-    requires usable { Usable form }
-    requires within_limits { WithinLimits counts }
-    ensures { result ≡ lists_from form counts }
-{
-    counters_from(form, counts) + COUNTER_BYTES * counts.counters
-}
+    // Counters.
+    fn put_counters(&mut self, values: &[i32])
+        requires { self.old.end + length values.now * counter_bytes ≤ length self.old.out.now }
+        ensures { Writes (joined_below (length values.now) (λ c. word_bytes (complement (get_or values.now c (pos 0))))) self.old self.new }
+    {
+        for value in values {
+            self.put(&value.to_le_bytes());
+        }
+    }
 
-// How many bytes a game takes, with so many entries in its two lists.
-pub fn stored_length(form: Form, counts: Counts, listed: usize, starting: usize) -> usize
-    requires usable { Usable form }
-    requires within_limits { WithinLimits counts }
-    requires listed_le_most_entries { (listed ≤ most_entries) × (starting ≤ most_entries) }
-    ensures { result ≡ length_of form counts listed starting }
-{
-    lists_from(form, counts) + COUNT_BYTES + listed + COUNT_BYTES + starting + form.setsize
-}
+    // A list of routines.
+    fn put_line(&mut self, line: Line)
+        requires { self.old.end + count_bytes + used_of line ≤ length self.old.out.now }
+        ensures { Writes (line_bytes line) self.old self.new }
+    {
+        let items = line.items;
+        let all = used(line);
+        self.put_half(line.len);
+        self.put(&items[0..all]);
+    }
 
-// The header, at a buffer's front.
-pub fn put_header(form: Form, counts: Counts, out: &mut [u8]) -> usize
-    requires usable { Usable form }
-    requires within_limits { WithinLimits counts }
-    requires game_header_bytes_in_bounds { game_header_bytes ≤ length out.old }
-    ensures { Put 0 (game_header form counts) out.old out.new result }
-{
-    let mut end = put_half(out, 0, form.number);
-    end = put_half(out, end, counts.routines);
-    end = put_half(out, end, counts.signals);
-    end = put_half(out, end, counts.counters);
-    end = put_half(out, end, GAME_HEADER_BYTES);
-    end = put_half(out, end, counters_from(form, counts));
-    put_half(out, end, lists_from(form, counts))
+    // The set of signals to broadcast.
+    fn put_set(&mut self, form: UsableForm, flags: &[bool; MOST_SIGNALS])
+        requires { (length flags.now ≡ most_signals) × (self.old.end + form.form.setsize ≤ length self.old.out.now) }
+        ensures { Writes (joined_below form.form.setsize (λ k. set_byte flags.now k ∷ [])) self.old self.new }
+    {
+        // By number: a form may have more bytes here than there are flags for, so that chunks of the flags would not do.
+        for byte in 0..form.form.setsize {
+            self.put(&[set_byte(flags, byte)]);
+        }
+    }
+
+    // A game.
+    pub fn put_game(&mut self, form: UsableForm, game: Game)
+        requires within_limits { WithinLimits game.counts }
+        requires in_bounds { self.old.end + length_of form.form game.counts (used_of game.listed) (used_of game.starting)
+            ≤ length self.old.out.now }
+        ensures { Writes (stored form.form game) self.old self.new }
+    {
+        let counts = game.counts;
+        self.put_header(form, counts);
+        for routine in &game.routines[0..counts.routines] {
+            self.put_record(form, *routine);
+        }
+        self.put_counters(&game.counters[0..counts.counters]);
+        self.put_line(game.listed);
+        self.put_line(game.starting);
+        self.put_set(form, &game.broadcast);
+    }
 }
 
 // The fields of a routine's record.
 fn fields_of(x: Routine) -> [u8; FIELD_BYTES]
     ensures { result ≡ fields_of x }
 {
-    let place = x.place;
-    let left = word_bytes(x.left);
+    let place = x.place.to_le_bytes();
+    let left = x.left.to_le_bytes();
     [
         x.stage,
         flags_of(x),
-        (place % 256) as u8,
-        (place / 256 % 256) as u8,
+        place[0],
+        place[1],
         left[0],
         left[1],
         left[2],
@@ -123,58 +140,13 @@ fn fields_of(x: Routine) -> [u8; FIELD_BYTES]
     ]
 }
 
-// The record of a routine.
-pub fn put_record(form: Form, x: Routine, out: &mut [u8], at: usize) -> usize
-    requires usable { Usable form }
-    requires recordsize_in_bounds { at + form.recordsize ≤ length out.old }
-    ensures { Put at (record_of form x) out.old out.new result }
+// How many bytes a game takes, with so many entries in its two lists. That R and C are within limits stays a clause, here and in the
+// writer: they are fields of C's Game, which may have any values.
+#[tactic(auto, unfolding(stored_games::specs::Stored::length_of))]
+pub fn stored_length(form: UsableForm, counts: Counts, listed: usize, starting: usize) -> usize
+    requires within_limits { WithinLimits counts }
+    requires listed_le_most_entries { (listed ≤ most_entries) × (starting ≤ most_entries) }
+    ensures { result ≡ length_of form.form counts listed starting }
 {
-    let fields = fields_of(x);
-    let size = form.recordsize;
-    put(out, at, &fields[0..size])
-}
-
-// So many counters.
-pub fn put_counters(values: &[i32; MOST_COUNTERS], count: usize, out: &mut [u8], at: usize) -> usize
-    requires { (count ≤ most_counters) × (at + count * counter_bytes ≤ length out.old) }
-    ensures { Put at (joined_below count (λ c. word_bytes (complement (get_or values.now c (pos 0)))))
-        out.old out.new result }
-{
-    let mut end = at;
-    let mut done: usize = 0;
-    while done < count {
-        let bytes = word_bytes(complement_of(values[done]));
-        end = put(out, end, &bytes);
-        done += 1;
-    }
-    end
-}
-
-// A list of routines.
-pub fn put_line(line: Line, out: &mut [u8], at: usize) -> usize
-    requires { at + count_bytes + used_of line ≤ length out.old }
-    ensures { Put at (line_bytes line) out.old out.new result }
-{
-    let items = line.items;
-    let all = used(line);
-    let end = put_half(out, at, line.len);
-    put(out, end, &items[0..all])
-}
-
-// The set of signals to broadcast.
-pub fn put_set(form: Form, flags: &[bool; MOST_SIGNALS], out: &mut [u8], at: usize) -> usize
-    requires usable { Usable form }
-    requires flags_len { (length flags.now ≡ most_signals) × (at + form.setsize ≤ length out.old) }
-    ensures { Put at (joined_below form.setsize (λ k. set_byte flags.now k ∷ []))
-        out.old out.new result }
-{
-    let all = form.setsize;
-    let mut end = at;
-    let mut done: usize = 0;
-    while done < all {
-        let bytes = [set_byte(flags, done)];
-        end = put(out, end, &bytes);
-        done += 1;
-    }
-    end
+    form.lists_from(counts) + COUNT_BYTES + listed + COUNT_BYTES + starting + form.form.setsize
 }

@@ -1,5 +1,5 @@
 -- The tables of a round, and the state that they hold.
-use Rattle.std.specs.Prelude.{ℕ, ◌+◌, ◌*◌, ◌/◌, ◌≤◌, ◌≡◌, Bool, false, List, [], ◌∷◌, ltb, eqb, length, get_or, set, take, drop, ℤ, pos, negsuc, if◌then◌else◌}
+use Rattle.std.specs.Prelude.{ℕ, ◌+◌, ◌*◌, ◌/◌, ◌≤◌, ◌≡◌, Bool, false, List, [], ◌∷◌, ltb, length, get_or, set, take, drop, ℤ, pos, negsuc, if◌then◌else◌}
 use Rattle.numbers.specs.Numbers.{word_limit}
 use Rattle.numbers.specs.Counting.{list_below}
 use Rattle.layout.specs.Layout.{most_routines, most_signals}
@@ -8,7 +8,12 @@ use Rattle.lines.specs.Lines.{most_entries}
 use Rattle.game.specs.declared.Routine.{Routine}
 use Rattle.game.specs.declared.Game.{Game}
 use Rattle.round.specs.State.{State}
+use Rattle.tables.specs.declared.Flag.{Flag}
+use Rattle.tables.specs.declared.Flag.TheVariants.{Ends, Stops, Suspends, Resumes, Suspended, Begun}
+use Rattle.tables.specs.declared.Field.{Field}
+use Rattle.tables.specs.declared.Field.TheVariants.{Stage, Place, Left}
 use Rattle.tables.specs.declared.Tally.{Tally}
+use Rattle.tables.specs.declared.Tables.{Tables}
 
 -- where the rows of flags begin: the end signals, those to stop, to suspend and to resume, those suspended, those that have begun a count;
 -- last, the signals that are present
@@ -36,6 +41,14 @@ present_row = 6 * most_routines
 abbrev pub flag_count : ℕ
 flag_count = present_row + most_signals
 
+abbrev pub flag_row : Flag → ℕ
+flag_row Ends = ends_row
+flag_row Stops = stops_row
+flag_row Suspends = suspends_row
+flag_row Resumes = resumes_row
+flag_row Suspended = suspended_row
+flag_row Begun = begun_row
+
 -- where the rows of fields begin: stages, places, counts left; last, those to start
 abbrev pub stages_row : ℕ
 stages_row = 0
@@ -51,6 +64,11 @@ starting_row = 3 * most_routines
 
 abbrev pub field_count : ℕ
 field_count = starting_row + most_entries
+
+abbrev pub field_row : Field → ℕ
+field_row Stage = stages_row
+field_row Place = places_row
+field_row Left = lefts_row
 
 -- the row of routines that begins at k
 unfoldable pub row_at : {A : Type 0} → ℕ → List A → List A
@@ -117,9 +135,12 @@ state_of g counters flags fields given tally eoi =
       end_signals = row_at ends_row flags;
       numbers = take tally.given (pairs_of given);
       lost = tally.lost;
-      moved = eqb tally.moved 1;
+      moved = tally.moved;
       eoi = eoi;
     }
+
+abbrev pub state_in : Game → Tables → List ℤ → Bool → State
+state_in g t given eoi = state_of g t.counters t.flags t.fields given t.tally eoi
 
 -- the tables are as long as their types say, and no more are to start, and no more numbers given, than there is room for
 pub record Whole (room : ℕ) (flags : List Bool) (fields : List ℕ) (tally : Tally) : Type 0 where
@@ -127,3 +148,6 @@ pub record Whole (room : ℕ) (flags : List Bool) (fields : List ℕ) (tally : T
   pub fields_long : length fields ≡ field_count
   pub starting_fits : tally.starting ≤ most_entries
   pub given_fits : tally.given ≤ room
+
+abbrev pub WholeIn : ℕ → Tables → Type 0
+WholeIn room t = Whole room t.flags t.fields t.tally

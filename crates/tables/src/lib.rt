@@ -1,155 +1,194 @@
 #![tactic(auto)]
 // The tables of a round: its state taken apart into arrays of numbers and flags, a row for each kind of thing.
 //
-// Flags: rows of MOST_ROUTINES for the end signals, those to stop, to suspend and to resume in the next round, those suspended, and those
-// that have begun a count; last a row of MOST_SIGNALS for the signals that are present. Fields: rows of MOST_ROUTINES for the stage, the
-// place and the count left; last a row of MOST_ENTRIES for those to start. Pairs, two numbers to each: the numbers given, each behind its
-// signal, and the marks, each a routine and its number.
+// Flags: a row of MOST_ROUTINES for each kind of flag, and last a row of MOST_SIGNALS for the signals that are present. Fields: a row of
+// MOST_ROUTINES for each kind of field, and last a row of MOST_ENTRIES for those to start. Pairs, two numbers to each: the numbers given,
+// each behind its signal, and the marks, each a routine and its number.
 //
-// These functions serve the code that plays and ask for a row of the table and for numbers that it can hold. No struct that is carried
-// round a loop has a field but usize: the padding behind a bool or a tag would be copied with it.
-ghost use Rattle.std.specs.Prelude.{◌≡◌, false, ◌+◌, ◌<◌, ◌≤◌, ◌^◌, get_or, set, pos};
+// These methods serve the code that plays and ask for numbers that a table has a place for. The tables are lent to all that plays, and
+// never copied. Numbers go in and out by `as`: each is proved to lose nothing, and try_from would have a refusal that no call meets.
+ghost use Rattle.std.specs.Prelude.{◌≡◌, false, ◌+◌, ◌<◌, ◌≤◌, ◌^◌, length, get_or, set, pos};
 ghost use Rattle.numbers.specs.Numbers.{word_limit};
-ghost use Rattle.layout.specs.Layout.{most_signals, most_counters};
+ghost use Rattle.layout.specs.Layout.{most_routines, most_signals, most_counters};
 ghost use Rattle.lines.specs.Lines.{most_entries};
-ghost use Rattle.tables.specs.Tables.{begun_row, present_row, lefts_row, starting_row, row_at, last_row, put_in, pair_put, pair_count};
+ghost use Rattle.tables.specs.Tables.{flag_row, field_row, begun_row, present_row, lefts_row, starting_row};
+ghost use Rattle.tables.specs.Tables.{row_at, last_row, put_in, pair_put, pair_count};
 
 use layout::{MOST_COUNTERS, MOST_ROUTINES, MOST_SIGNALS};
 use lines::MOST_ENTRIES;
 
-// Where the rows of flags begin.
-pub const ENDS: usize = 0;
+// A row of flags: the end signals, those to stop, to suspend and to resume, those suspended, and those that have begun a count.
+#[derive(Clone, Copy)]
+pub enum Flag {
+    Ends,
+    Stops,
+    Suspends,
+    Resumes,
+    Suspended,
+    Begun,
+}
 
-pub const STOPS: usize = MOST_ROUTINES;
+// A row of fields: the stages, the places and the counts left.
+#[derive(Clone, Copy)]
+pub enum Field {
+    Stage,
+    Place,
+    Left,
+}
 
-pub const SUSPENDS: usize = 2 * MOST_ROUTINES;
+// Where the signals that are present begin, behind the rows of flags.
+const PRESENT: usize = 6 * MOST_ROUTINES;
 
-pub const RESUMES: usize = 3 * MOST_ROUTINES;
+pub const FLAGS: usize = PRESENT + MOST_SIGNALS;
 
-pub const SUSPENDED: usize = 4 * MOST_ROUTINES;
+// Where those to start begin, behind the rows of fields.
+const STARTING: usize = 3 * MOST_ROUTINES;
 
-pub const BEGUN: usize = 5 * MOST_ROUTINES;
-
-pub const PRESENT: usize = 6 * MOST_ROUTINES;
-
-pub const FLAGS: usize = 6 * MOST_ROUTINES + MOST_SIGNALS;
-
-// Where the rows of fields begin.
-pub const STAGES: usize = 0;
-
-pub const PLACES: usize = MOST_ROUTINES;
-
-pub const LEFTS: usize = 2 * MOST_ROUTINES;
-
-pub const STARTING: usize = 3 * MOST_ROUTINES;
-
-pub const FIELDS: usize = 3 * MOST_ROUTINES + MOST_ENTRIES;
+pub const FIELDS: usize = STARTING + MOST_ENTRIES;
 
 // What the steps of a round have counted: those to start, the numbers given, the marks and what additions have cut off; and whether the
-// pass has had a move, 1 or 0.
-#[derive(Clone, Copy)]
+// pass has had a move.
+#[derive(Clone, Copy, Default)]
 pub struct Tally {
     pub starting: usize,
     pub given: usize,
     pub marks: usize,
     pub lost: usize,
-    pub moved: usize,
+    pub moved: bool,
 }
 
-// The flag of a routine; none where there is no such routine.
-pub fn flag_at(flags: &[bool; FLAGS], row: usize, routine: usize) -> bool
-    requires { row ≤ begun_row }
-    ensures { result ≡ get_or (row_at row flags.now) routine false }
+// The tables of a round, and what is counted.
+// The numbers given and the marks are no fields: their slices are as long as the book needs, and C lends the marks (`zulqenat_round`).
+#[derive(Drop)]
+pub struct Tables {
+    pub flags: [bool; FLAGS],
+    pub fields: [u32; FIELDS],
+    pub counters: [i32; MOST_COUNTERS],
+    pub tally: Tally,
+}
+
+impl Flag {
+    // Where the row begins.
+    fn row(self) -> usize
+        ensures { (result ≡ flag_row self) × (result ≤ begun_row) }
+    {
+        self as usize * MOST_ROUTINES
+    }
+}
+
+// A trait over the two would have the same two lines; what is more than a line, read_in and put_in, they share.
+impl Field {
+    fn row(self) -> usize
+        ensures { (result ≡ field_row self) × (result ≤ lefts_row) }
+    {
+        self as usize * MOST_ROUTINES
+    }
+}
+
+// What a row has for a routine; none where there is no such routine.
+#[tactic(auto, using(crate::proofs::Rows::row_read, crate::proofs::Rows::row_beyond, std::proofs::lemmas::List::get_or_default))]
+pub fn read_in<T: Copy>(table: &[T], row: usize, routine: usize, none: T) -> T
+    requires { row + most_routines ≤ length table.now }
+    ensures { result ≡ get_or (row_at row table.now) routine none }
 {
     if routine < MOST_ROUTINES {
-        flags[row + routine]
+        table[row + routine]
     } else {
-        false
+        none
     }
 }
 
-pub fn put_flag(flags: &mut [bool; FLAGS], row: usize, routine: usize, value: bool)
-    requires { row ≤ begun_row }
-    ensures { flags.new ≡ put_in row routine value flags.old }
+#[tactic(auto, unfolding(crate::specs::Tables::put_in))]
+pub fn put_in<T: Copy>(table: &mut [T], row: usize, routine: usize, value: T)
+    requires { row + most_routines ≤ length table.old }
+    ensures { table.new ≡ put_in row routine value table.old }
 {
     if routine < MOST_ROUTINES {
-        flags[row + routine] = value;
+        table[row + routine] = value;
     }
 }
 
-// Whether a signal is present.
-pub fn is_present(flags: &[bool; FLAGS], signal: usize) -> bool
-    requires { signal < most_signals }
-    ensures { result ≡ get_or (last_row present_row flags.now) signal false }
-{
-    flags[PRESENT + signal]
-}
-
-pub fn put_present(flags: &mut [bool; FLAGS], signal: usize, value: bool)
-    requires { signal < most_signals }
-    ensures { flags.new ≡ set flags.old (present_row + signal) value }
-{
-    flags[PRESENT + signal] = value;
-}
-
-// A field as an index.
-fn wide(x: u32) -> usize
-    ensures { (result ≡ x) × (result < word_limit) }
-{
-    x as usize
-}
-
-// The stage, the place or the count left of a routine; 0 where there is no such routine.
-pub fn field_at(fields: &[u32; FIELDS], row: usize, routine: usize) -> usize
-    requires { row ≤ lefts_row }
-    ensures { (result ≡ get_or (row_at row fields.now) routine 0) × (result < word_limit) }
-{
-    if routine < MOST_ROUTINES {
-        wide(fields[row + routine])
-    } else {
-        0
+impl Tables {
+    // The flag of a routine; none where there is no such routine.
+    pub fn flag(&self, row: Flag, routine: usize) -> bool
+        ensures { result ≡ get_or (row_at (flag_row row) self.now.flags) routine false }
+    {
+        read_in(&self.flags, row.row(), routine, false)
     }
-}
 
-pub fn put_field(fields: &mut [u32; FIELDS], row: usize, routine: usize, value: usize)
-    requires { (row ≤ lefts_row) × (value < word_limit) }
-    ensures { fields.new ≡ put_in row routine value fields.old }
-{
-    if routine < MOST_ROUTINES {
-        fields[row + routine] = value as u32;
+    pub fn put_flag(&mut self, row: Flag, routine: usize, value: bool)
+        ensures { self.new ≡ record self.old { flags = put_in (flag_row row) routine value self.old.flags } }
+    {
+        put_in(&mut self.flags, row.row(), routine, value);
     }
-}
 
-// One of those to start.
-pub fn starting_at(fields: &[u32; FIELDS], at: usize) -> usize
-    requires { at < most_entries }
-    ensures { (result ≡ get_or (last_row starting_row fields.now) at 0) × (result < word_limit) }
-{
-    wide(fields[STARTING + at])
-}
+    // Each method for signals, for those to start and for counters is one index into an array: a generic function would have to be given
+    // the array and do no more.
+    //
+    // Whether a signal is present.
+    #[tactic(auto, using(crate::proofs::Rows::last_read))]
+    pub fn is_present(&self, signal: usize) -> bool
+        requires { signal < most_signals }
+        ensures { result ≡ get_or (last_row present_row self.now.flags) signal false }
+    {
+        self.flags[PRESENT + signal]
+    }
 
-pub fn put_starting(fields: &mut [u32; FIELDS], at: usize, routine: usize)
-    requires { (at < most_entries) × (routine < word_limit) }
-    ensures { fields.new ≡ set fields.old (starting_row + at) routine }
-{
-    fields[STARTING + at] = routine as u32;
-}
+    pub fn put_present(&mut self, signal: usize, value: bool)
+        requires { signal < most_signals }
+        ensures { self.new ≡ record self.old { flags = set self.old.flags (present_row + signal) value } }
+    {
+        self.flags[PRESENT + signal] = value;
+    }
 
-pub fn counter_at(counters: &[i32; MOST_COUNTERS], counter: usize) -> i32
-    requires { counter < most_counters }
-    ensures { result ≡ get_or counters.now counter (pos 0) }
-{
-    counters[counter]
-}
+    // The stage, the place or the count left of a routine; 0 where there is no such routine.
+    pub fn field(&self, row: Field, routine: usize) -> usize
+        ensures { (result ≡ get_or (row_at (field_row row) self.now.fields) routine 0) × (result < word_limit) }
+    {
+        read_in(&self.fields, row.row(), routine, 0) as usize
+    }
 
-pub fn put_counter(counters: &mut [i32; MOST_COUNTERS], counter: usize, value: i32)
-    requires { counter < most_counters }
-    ensures { counters.new ≡ set counters.old counter value }
-{
-    counters[counter] = value;
+    pub fn put_field(&mut self, row: Field, routine: usize, value: usize)
+        requires { value < word_limit }
+        ensures { self.new ≡ record self.old { fields = put_in (field_row row) routine value self.old.fields } }
+    {
+        put_in(&mut self.fields, row.row(), routine, value as u32);
+    }
+
+    // One of those to start.
+    #[tactic(auto, using(crate::proofs::Rows::last_read))]
+    pub fn starting(&self, at: usize) -> usize
+        requires { at < most_entries }
+        ensures { (result ≡ get_or (last_row starting_row self.now.fields) at 0) × (result < word_limit) }
+    {
+        self.fields[STARTING + at] as usize
+    }
+
+    pub fn put_starting(&mut self, at: usize, routine: usize)
+        requires { (at < most_entries) × (routine < word_limit) }
+        ensures { self.new ≡ record self.old { fields = set self.old.fields (starting_row + at) routine } }
+    {
+        self.fields[STARTING + at] = routine as u32;
+    }
+
+    pub fn counter(&self, counter: usize) -> i32
+        requires { counter < most_counters }
+        ensures { result ≡ get_or self.now.counters counter (pos 0) }
+    {
+        self.counters[counter]
+    }
+
+    pub fn put_counter(&mut self, counter: usize, value: i32)
+        requires { counter < most_counters }
+        ensures { self.new ≡ record self.old { counters = set self.old.counters counter value } }
+    {
+        self.counters[counter] = value;
+    }
 }
 
 // A pair behind those that a buffer holds, and how many it holds then; a full buffer takes no more.
+// The buffer is plain numbers with their count beside it, since C lends that of the marks (`zulqenat_round`).
+#[tactic(auto, unfolding(crate::specs::Tables::pair_put))]
 pub fn put_pair(pairs: &mut [i32], count: usize, first: usize, second: i32) -> usize
     requires { first < 2 ^ 31 }
     ensures value { result ≡ pair_count count pairs.old }

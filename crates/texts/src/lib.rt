@@ -1,74 +1,96 @@
 #![tactic(auto)]
-// Texts that are put one behind another into a lent buffer. A call that puts something puts it behind the bytes that are used already, and
-// answers how many are used then: one more than the buffer has where not all of it fits.
-ghost use Rattle.std.specs.Prelude.{◌≡◌, ◌++◌};
-ghost use Rattle.texts.specs.Texts.{filled, with_text, decimal_text, signed_text, hex_text};
+// Texts that are put one behind another into a lent buffer, numbers among them.
+ghost use Rattle.std.specs.Prelude.{◌++◌, ℕ, List};
+ghost use Rattle.texts.specs.Texts.{decimal_text, signed_text, hex_text};
+ghost use Rattle.texts.specs.Held.{Puts};
 
 use words::part;
 
-pub fn put(out: &mut [u8], used: usize, text: &[u8]) -> usize
-    ensures { filled out.new result ≡ with_text (filled out.old used) text.now }
-{
-    let mut end = used;
-    let mut at: usize = 0;
-    while at < text.len() {
-        if out.len() <= end {
-            return out.len() + 1;
-        }
-        out[end] = text[at];
-        end += 1;
-        at += 1;
-    }
-    end
+// A lent buffer, and how many of its bytes are used: one more than it has where not all that was put found room. That number, and no
+// Option, since the clause of `list_play` gives it out.
+// No `fmt::Write`: what that says of `write!` tells nothing of the buffer after an `Err`, and `Puts` tells it for every text.
+#[derive(Drop)]
+pub struct Text<'a> {
+    pub out: &'a mut [u8],
+    pub used: usize,
 }
 
-// A number in decimal.
-pub fn put_decimal(out: &mut [u8], used: usize, n: u64) -> usize
-    ensures { filled out.new result ≡ with_text (filled out.old used) (decimal_text n) }
-{
-    let mut digits = [0u8; 20];
-    let count = io::decimal(n, &mut digits);
-    put(out, used, &digits[..count])
+// A number that is put as its text.
+pub trait Numeral {
+    ghost numeral: { Self → List ℕ };
+
+    fn put_in(self, text: &mut Text)
+        ensures { Puts text.old (numeral self) text.new };
+}
+
+impl Text<'_> {
+    // Puts a text behind what is there, byte by byte: of one that is too long as many as find room are put, and `used` then tells it.
+    pub fn put(&mut self, text: &[u8])
+        ensures { Puts self.old text.now self.new }
+    {
+        for &c in text {
+            if self.out.len() <= self.used {
+                self.used = self.out.len() + 1;
+                return;
+            }
+            self.out[self.used] = c;
+            self.used += 1;
+        }
+    }
+
+    // A word with a number behind it.
+    pub fn put_numbered<N: Numeral>(&mut self, word: &[u8], n: N)
+        ensures { Puts self.old (word.now ++ N.numeral n) self.new }
+    {
+        self.put(word);
+        n.put_in(self);
+    }
+
+    // A byte as its two hexadecimal digits.
+    pub fn put_byte(&mut self, byte: u8)
+        ensures { Puts self.old (hex_text byte) self.new }
+    {
+        let mut digits = [0u8; 16];
+        let count = io::hex(u64::from(byte), 2, &mut digits);
+        self.put(&digits[..count]);
+    }
+
+    // Prints the bytes that are used.
+    pub fn print(&self) {
+        io::write_all(1, part(self.out, self.used));
+    }
+}
+
+// In decimal.
+impl Numeral for u64 {
+    ghost numeral = { decimal_text };
+
+    fn put_in(self, text: &mut Text) {
+        let mut digits = [0u8; 20];
+        let count = io::decimal(self, &mut digits);
+        text.put(&digits[..count]);
+    }
+}
+
+impl Numeral for usize {
+    ghost numeral = { decimal_text };
+
+    fn put_in(self, text: &mut Text) {
+        // u64 has no From<usize>.
+        (self as u64).put_in(text);
+    }
 }
 
 // The same, with a minus below 0.
-pub fn put_signed(out: &mut [u8], used: usize, n: i32) -> usize
-    ensures { filled out.new result ≡ with_text (filled out.old used) (signed_text n) }
-{
-    if n < 0 {
-        let signed = put(out, used, b"-");
-        let below = numbers::count(-1 - n) as u64;
-        return put_decimal(out, signed, below + 1);
+impl Numeral for i32 {
+    ghost numeral = { signed_text };
+
+    fn put_in(self, text: &mut Text) {
+        let digits = u64::from(self.unsigned_abs());
+        if self < 0 {
+            text.put_numbered(b"-", digits);
+        } else {
+            digits.put_in(text);
+        }
     }
-    put_decimal(out, used, numbers::count(n) as u64)
-}
-
-// A word with a number behind it.
-pub fn put_numbered(out: &mut [u8], used: usize, word: &[u8], n: u64) -> usize
-    ensures { filled out.new result ≡ with_text (filled out.old used) (word.now ++ decimal_text n) }
-{
-    let end = put(out, used, word);
-    put_decimal(out, end, n)
-}
-
-// The same, with a signed number.
-pub fn put_signed_numbered(out: &mut [u8], used: usize, word: &[u8], n: i32) -> usize
-    ensures { filled out.new result ≡ with_text (filled out.old used) (word.now ++ signed_text n) }
-{
-    let end = put(out, used, word);
-    put_signed(out, end, n)
-}
-
-// A byte as its two hexadecimal digits.
-pub fn put_byte(out: &mut [u8], used: usize, byte: u8) -> usize
-    ensures { filled out.new result ≡ with_text (filled out.old used) (hex_text byte) }
-{
-    let mut digits = [0u8; 16];
-    let count = io::hex(byte as u64, 2, &mut digits);
-    put(out, used, &digits[..count])
-}
-
-// Prints the bytes that are used.
-pub fn print(out: &[u8], used: usize) {
-    io::write_all(1, part(out, used));
 }

@@ -7,8 +7,8 @@ use native.Mathlib.Omega.{arith}
 use lib.Dec.{leb→le}
 use lib.IntN.{ℤ, pos, negsuc}
 use lib.Signed.{◌≤ℤ◌}
+use Rattle.std.specs.Prelude.{Some}
 use Rattle.numbers.specs.Numbers.{word_limit, count_of, highest}
-use Rattle.kinds.specs.declared.Step.TheVariants as step
 use Rattle.kinds.specs.Steps.{Row, table, field_a, field_b, field_n}
 use Rattle.kinds.proofs.Readable.{step_readable}
 use Rattle.kinds.proofs.Rows.{Rows, ◌and◌, step_holds, row_kind, kind_at_lem}
@@ -77,7 +77,7 @@ module _ (book : List ℕ) (accepted : Accepted book) (r : ℕ) (below : r < rou
       let there : p < step_count book r = omega (arith, routine_steps_lem book accepted r below) in
       let (k, shown) = shown_kind book accepted r below p there in
       let e = rw (shown_routine book accepted r below) at shown in
-      e ∙ ap step.Kind (sym (kind_at_lem (counts_of book) steps p e))
+      e ∙ ap Some (sym (kind_at_lem (counts_of book) steps p e))
 
   pub steps_within : AllWithin steps
   steps_within p h =

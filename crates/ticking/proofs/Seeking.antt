@@ -1,115 +1,57 @@
--- The k-th number of a signal among the first pairs of a buffer. While it is sought, the signal's numbers from a pair on are all of them
--- without those that were passed.
-use Prim.Native.Nat.{ℕ, zero, suc, ◌+◌, ◌-◌, ◌*◌, ◌/◌, ◌≤◌, ◌<◌}
-use mathlib.Core.Path.{◌≡◌, refl, sym, ap, ◌∙◌}
-use mathlib.Core.Bool.{true, false, ◌&&◌}
-use mathlib.Core.List.{List, [], ◌∷◌}
+-- The k-th number of a signal among the first pairs of a buffer: of the pairs, two numbers to each, those of the signal are kept, and their
+-- second numbers are the signal's.
+use Prim.Native.Nat.{ℕ, suc, ◌-◌, ◌/◌, ◌<◌}
+use mathlib.Core.Path.{◌≡◌, refl}
+use mathlib.Core.Bool.{Bool}
+use mathlib.Core.List.{List, [], ◌∷◌, map}
 use native.Mathlib.Omega.{arith}
-use native.Mathlib.Numerals.{add-one}
 use native.Mathlib.Decide.{dec_le}
-use borrow.Author.Tests.{le-leb, lt-leb, ne_eqb, eqb-true, eqb-false}
 use lib.Dec.{eqb, leb}
-use lib.IntN.{ℤ, pos, negsuc}
-use lib.Signed.{le_z}
-use lib.ListN.{length, get_or, take, drop, length-take, length-drop, drop_of_length-le}
-use lib.Seq.{drop-cons, drop-drop, get_or-take, get_or-drop}
-use Rattle.std.specs.Prelude.{if◌then◌else◌}
-use Rattle.numbers.specs.Numbers.{word_limit}
+use lib.IntN.{ℤ, pos}
+use lib.ListN.{length, get_or, take}
+use borrow.Author.Tests.{le-leb, lt-leb}
+use Rattle.std.specs.Prelude.{Some, None, if◌then◌else◌}
+use Rattle.std.specs.List.{filter, slice_get}
+use Rattle.std.specs.Simd.{first_chunks}
+use Rattle.std.proofs.lemmas.List.{take-map}
+use Rattle.std.proofs.lemmas.Option.{slice_get_past, slice_get-get_or}
 use Rattle.numbers.proofs.Tests.{by_flag}
-use Rattle.layout.specs.Layout.{most_signals}
 use Rattle.tables.specs.Tables.{first_of_pair, pairs_of}
-use Rattle.tables.proofs.Pairs.{pairs_length}
 use Rattle.round.specs.State.{numbers_with}
 
--- two order tests say whether a signal is e
-pub same_signal : (z : ℤ) (e : ℕ) → e < most_signals → (le_z z (pos e) && le_z (pos e) z) ≡ eqb (first_of_pair z) e
-same_signal (pos a) e h =
-    by_flag (eqb a e) (λ t. let s = eqb-true a e t in rw (t, le-leb a e (omega arith), le-leb e a (omega arith)))
-    (λ f.
-    let other = eqb-false a e f in
-    elim (dec_le a e) [
-      | yes l ↦ let n : a < e = omega arith in rw (f, le-leb a e l, lt-leb e a n)
-      | no l ↦ rw (f, lt-leb a e (omega arith))
-    ])
-same_signal (negsuc a) e h = rw (ne_eqb (word_limit + a) e (λ s. omega arith))
+abbrev pub chunks : List ℤ → List (List ℤ)
+chunks l = first_chunks 2 (length l / 2) l
 
-pairs_read :
-    (l : List ℤ) (i : ℕ) (d : ℕ × ℤ) → i < length l / 2 →
-    get_or (pairs_of l) i d ≡ (first_of_pair (get_or l (2 * i) (pos 0)), get_or l (2 * i + 1) (pos 0))
+abbrev pub number_in : List ℤ → ℤ
+number_in pair = get_or pair 1 (pos 0)
+
+abbrev pub signal_in : List ℤ → ℕ
+signal_in pair = first_of_pair (get_or pair 0 (pos 0))
+
+abbrev pub is_of : ℕ → List ℤ → Bool
+is_of e pair = eqb (signal_in pair) e
+
+pairs_chunks : (l : List ℤ) → pairs_of l ≡ map (λ pair. (signal_in pair, number_in pair)) (chunks l)
 unfolding pairs_of
-pairs_read [] i d h = absurd (omega arith)
-pairs_read (a ∷ []) i d h = absurd (omega arith)
-pairs_read (a ∷ b ∷ l) zero d h = refl
-pairs_read (a ∷ b ∷ l) (suc i) d h =
-    let two : 2 * suc i ≡ suc (suc (2 * i)) = omega arith in
-    let three : suc (suc (2 * i)) + 1 ≡ suc (suc (2 * i + 1)) = omega arith in
-    rw (two, three, pairs_read l i d (omega arith))
+pairs_chunks [] = refl
+pairs_chunks (a ∷ []) = refl
+pairs_chunks (a ∷ b ∷ l) =
+    let more : length (a ∷ b ∷ l) / 2 ≡ suc (length l / 2) = omega arith in
+    rw (more, pairs_chunks l)
 
-module _ (l : List ℤ) (count e k : ℕ) where
-  abbrev firsts : List (ℕ × ℤ)
-  firsts = take count (pairs_of l)
+numbers_kept :
+    (e : ℕ) (l : List (List ℤ)) → numbers_with e (map (λ pair. (signal_in pair, number_in pair)) l) ≡ map number_in (filter (is_of e) l)
+unfolding numbers_with
+numbers_kept e [] = refl
+numbers_kept e (x ∷ l) = by_flag (is_of e x) (λ t. rw (t, numbers_kept e l)) (λ f. rw (f, numbers_kept e l))
 
-  abbrev numbers : List ℤ
-  numbers = numbers_with e firsts
+pub numbers_in :
+    (e count : ℕ) (l : List ℤ) → numbers_with e (take count (pairs_of l)) ≡ map number_in (filter (is_of e) (take count (chunks l)))
+numbers_in e count l = rw (pairs_chunks l, take-map, numbers_kept)
 
-  -- the signal and the number of a pair
-  abbrev signal_in : ℕ → ℕ
-  signal_in at = first_of_pair (get_or l (2 * at) (pos 0))
-
-  abbrev number_in : ℕ → ℤ
-  number_in at = get_or l (2 * at + 1) (pos 0)
-
-  -- left of the k are sought from the pair at on
-  pub record Sought (at left : ℕ) : Type 0 where
-    pub ahead : numbers_with e (drop at firsts) ≡ drop (k - left) numbers
-    pub some : 0 < left
-    pub most : left ≤ k
-
-  pub sought_all : 0 < k → Sought 0 k
-  sought_all h = let z : k - k ≡ 0 = omega arith in record { ahead = rw z; some = h; most = omega arith }
-
-  module _ (fits : count ≤ length l / 2) (at left : ℕ) (sought : Sought at left) where
-    firsts_length : length firsts ≡ count
-    firsts_length = simp (length-take, pairs_length) (omega arith)
-
-    ahead_step :
-        at < count →
-        numbers_with e (drop at firsts)
-        ≡ (let rest = numbers_with e (drop (at + 1) firsts) in if eqb (signal_in at) e then number_in at ∷ rest else rest)
-    unfolding numbers_with
-    ahead_step h =
-        let d : ℕ × ℤ = (0, pos 0) in
-        let inside : at < length firsts = omega (arith, firsts_length) in
-        let there : at < length l / 2 = omega arith in
-        rw (drop-cons firsts at d inside, get_or-take count (pairs_of l) at d h, pairs_read l at d there, add-one at)
-
-    pub passes : at < count → eqb (signal_in at) e ≡ false → Sought (at + 1) left
-    passes h f = record { ahead = sym (rw f at (ahead_step h)) ∙ sought.ahead; some = sought.some; most = sought.most }
-
-    -- the pair has a number of the signal, and this is what is ahead
-    has_number :
-        at < count → eqb (signal_in at) e ≡ true → number_in at ∷ numbers_with e (drop (at + 1) firsts) ≡ drop (k - left) numbers
-    has_number h t = sym (rw t at (ahead_step h)) ∙ sought.ahead
-
-    pub counts : at < count → eqb (signal_in at) e ≡ true → 1 < left → Sought (at + 1) (left - 1)
-    counts h t more =
-        let few = sought.most in
-        let n : k - left + 1 ≡ k - (left - 1) = omega arith in
-        let tail = ap (λ (ns : List ℤ). drop 1 ns) (has_number h t) ∙ drop-drop 1 (k - left) numbers in
-        record { ahead = rw n at tail; some = omega arith; most = omega arith }
-
-    pub found :
-        at < count → eqb (signal_in at) e ≡ true → left ≤ 1 →
-        (leb k (length numbers) ≡ true) × (number_in at ≡ get_or numbers (k - 1) (pos 0))
-    found h t last =
-        let one : k - left + 0 ≡ k - 1 = omega (arith, sought.some) in
-        let long = ap (λ (ns : List ℤ). length ns) (has_number h t) ∙ length-drop (k - left) numbers in
-        let head = ap (λ (ns : List ℤ). get_or ns 0 (pos 0)) (has_number h t) ∙ get_or-drop (k - left) numbers 0 (pos 0) in
-        (le-leb k (length numbers) (omega (arith, long, sought.some)), rw one at head)
-
-    pub lost : count ≤ at → leb k (length numbers) ≡ false
-    unfolding numbers_with
-    lost over =
-        let none : drop at firsts ≡ [] = drop_of_length-le firsts {i = at} (omega (arith, firsts_length)) in
-        let long = ap (λ (ns : List ℤ). length ns) (rw none at sought.ahead) ∙ length-drop (k - left) numbers in
-        lt-leb k (length numbers) (omega (arith, long, sought.some, sought.most))
+pub kth : (ns : List ℤ) (k : ℕ) → 0 < k → slice_get ns (k - 1) ≡ (if leb k (length ns) then Some (get_or ns (k - 1) (pos 0)) else None)
+kth ns k some =
+    elim (dec_le k (length ns)) [
+      | yes h ↦ rw (le-leb k (length ns) h) (slice_get-get_or ns (k - 1) (pos 0) (omega arith))
+      | no h ↦ rw (lt-leb k (length ns) (omega arith)) (slice_get_past ns (k - 1) (omega arith))
+    ]

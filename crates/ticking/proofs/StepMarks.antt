@@ -7,12 +7,10 @@ use mathlib.Core.List.{List, [], ◌∷◌}
 use borrow.Author.Tests.{ltb-true}
 use lib.Dec.{eqb, ltb}
 use lib.IntN.{ℤ}
-use Rattle.std.specs.Prelude.{if◌then◌else◌}
+use Rattle.std.specs.Prelude.{if◌then◌else◌, Option, Some, None}
 use Rattle.numbers.proofs.Tests.{by_test, by_flag}
 use Rattle.kinds.specs.declared.Kind.{Kind}
 use Rattle.kinds.specs.declared.Kind.TheVariants as kind
-use Rattle.kinds.specs.declared.Step.{Step}
-use Rattle.kinds.specs.declared.Step.TheVariants as step
 use Rattle.kinds.specs.declared.Counts.{Counts}
 use Rattle.kinds.specs.Steps.{kind_at, step_at, steps_in}
 use Rattle.round.specs.declared.Position.{Position}
@@ -82,10 +80,10 @@ module _ (r : ℕ) (steps : List ℕ) (x : Position) (s : State) where
   kind_alike (kind.While c relation n) = record { same = refl; marks = refl }
   kind_alike kind.End = record { same = refl; marks = refl }
 
-  step_marks : (k : Step) → marks_in (tick_at r steps x s k).events ≡ marks_by r (tick_at r steps x s k).act
+  step_marks : (k : Option Kind) → marks_in (tick_at r steps x s k).events ≡ marks_by r (tick_at r steps x s k).act
   unfolding marks_in
-  step_marks (step.Kind k) = (kind_alike k).marks
-  step_marks step.Refused = refl
+  step_marks (Some k) = (kind_alike k).marks
+  step_marks None = refl
 
   module _ (counts : Counts) where
     -- the marks of a step's events are those of what it comes to
@@ -94,7 +92,7 @@ module _ (r : ℕ) (steps : List ℕ) (x : Position) (s : State) where
     marks_in_events = step_marks (step_at counts steps x.place)
 
     -- no step stands behind the last one
-    behind : ltb x.place (steps_in steps) ≡ false → step_at counts steps x.place ≡ step.Refused
+    behind : ltb x.place (steps_in steps) ≡ false → step_at counts steps x.place ≡ None
     unfolding step_at
     behind f = rw f
 

@@ -1,9 +1,8 @@
 -- What a step comes to, as the code that plays asks for it: of accepted steps, whose kinds are known without the book's counts.
-use Rattle.std.specs.Prelude.{ℕ, ◌<◌, ◌≡◌, List, [], ◌∷◌, ltb, ℤ, if◌then◌else◌}
+use Rattle.std.specs.Prelude.{ℕ, ◌<◌, ◌≡◌, List, [], ◌∷◌, ltb, ℤ, if◌then◌else◌, Some}
 use Rattle.numbers.specs.Numbers.{word_limit}
 use Rattle.kinds.specs.declared.Kind.{Kind}
 use Rattle.kinds.specs.declared.Kind.TheVariants as kind
-use Rattle.kinds.specs.declared.Step.TheVariants as step
 use Rattle.kinds.specs.declared.Counts.{Counts}
 use Rattle.kinds.specs.Steps.{kind_at, step_at, steps_in}
 use Rattle.layout.specs.Layout.{most_routines, most_signals, most_counters}
@@ -50,7 +49,7 @@ AllWithin steps = (p : ℕ) → p < steps_in steps → Within (kind_at steps p)
 
 -- no step is turned down under the book's counts
 abbrev pub Decodes : Counts → List ℕ → Type 0
-Decodes counts steps = (p : ℕ) → p < steps_in steps → step_at counts steps p ≡ step.Kind (kind_at steps p)
+Decodes counts steps = (p : ℕ) → p < steps_in steps → step_at counts steps p ≡ Some (kind_at steps p)
 
 -- the marks that routine r leaves by an effect
 abbrev pub mark_by : ℕ → Effect → List (ℕ × ℤ)

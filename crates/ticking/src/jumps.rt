@@ -9,7 +9,8 @@ use numbers::relation;
 use partners::{OP_END, OP_IF, OP_WHILE, partner};
 use round::{Act, Effect};
 
-// The place behind the partner of an opening or an else.
+// The place behind the partner of an opening or an else. That the step is there stays a clause, here and below: `tick` has just tested it.
+#[tactic(auto, using(crate::proofs::Searches::partner_near), unfolding(round::specs::Jumps::past_partner))]
 pub fn past_partner(steps: &[u8], place: usize) -> usize
     requires { place < steps_in steps.now }
     ensures { result ≡ past_partner steps.now place }
@@ -18,19 +19,16 @@ pub fn past_partner(steps: &[u8], place: usize) -> usize
 }
 
 // The opening that is not closed before a place.
+#[tactic(auto, using(crate::proofs::Searches::opening_on))]
 fn opening_before(steps: &[u8], place: usize) -> usize
     requires { place < steps_in steps.now }
     ensures { (result ≡ opening_before steps.now 0 place) × (result ≤ place) }
 {
-    let mut at = place;
     let mut depth: usize = 0;
-    while 0 < at {
-        at -= 1;
-        let op = steps[at * STEP_BYTES];
-        match op {
-            OP_END => {
-                depth += 1;
-            }
+    // By place, which is the answer: chunks of the steps would have to be numbered, cut at `place` and turned round for it.
+    for at in (0..place).rev() {
+        match steps[at * STEP_BYTES] {
+            OP_END => depth += 1,
             OP_IF | OP_WHILE => {
                 if depth == 0 {
                     return at;
@@ -44,6 +42,7 @@ fn opening_before(steps: &[u8], place: usize) -> usize
 }
 
 // Where an end leads: to its while's test, or past its if.
+#[tactic(auto, unfolding(round::specs::Jumps::from_end))]
 pub fn from_end(steps: &[u8], place: usize) -> usize
     requires { place < steps_in steps.now }
     ensures { result ≡ from_end steps.now place }

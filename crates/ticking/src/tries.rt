@@ -1,5 +1,5 @@
 // The steps that may halt the turn: counted rests, and those that ask for a signal, a routine's end or a number.
-ghost use Rattle.std.specs.Prelude.{◌≡◌, ◌||◌, false, ◌+◌, ◌-◌, ◌*◌, ◌/◌, ◌<◌, ◌≤◌, ◌^◌, ltb, leb, eqb, pos, length, get_or, take, if◌then◌else◌};
+ghost use Rattle.std.specs.Prelude.{◌≡◌, ◌||◌, false, ◌+◌, ◌-◌, ◌/◌, ◌<◌, ◌≤◌, ◌^◌, leb, eqb, pos, length, get_or, take, if◌then◌else◌};
 ghost use Rattle.layout.specs.Layout.{most_signals};
 ghost use Rattle.tables.specs.Tables.{stages_row, ends_row, row_at, first_of_pair, pairs_of};
 ghost use Rattle.round.specs.State.{counts_as_ended, numbers_with};
@@ -8,7 +8,7 @@ ghost use Rattle.round.specs.Ticks as ticks;
 use crate::fresh;
 use game::ENDED;
 use round::{Act, Effect, Ending, Position};
-use tables::{ENDS, FIELDS, FLAGS, STAGES, field_at, flag_at};
+use tables::{Field, Flag, Tables};
 
 // A step that has begun its count, with so many left.
 fn begun_at(place: usize, left: usize) -> Position
@@ -21,7 +21,7 @@ fn begun_at(place: usize, left: usize) -> Position
     }
 }
 
-// A rest with the count k.
+// A rest with the count k. That the place has one behind it stays a clause, here and below: `tick` has just tested it.
 pub fn rests_for(place: usize, k: usize) -> Act
     requires { place + 1 < 2 ^ 64 }
     ensures { result ≡ (
@@ -80,47 +80,39 @@ pub fn waits_for(x: Position, eoi: bool, there: bool, k: usize) -> Act
 fn counts_as_ended(stage: usize) -> bool
     ensures { result ≡ counts_as_ended stage }
 {
-    ENDED as usize <= stage
+    usize::from(ENDED) <= stage
 }
 
 // Whether a routine counts as ended, or its end signal is present.
-pub fn end_there(flags: &[bool; FLAGS], fields: &[u32; FIELDS], routine: usize) -> bool
+pub fn end_there(tables: &Tables, routine: usize) -> bool
     ensures { result ≡ (
-        counts_as_ended (get_or (row_at stages_row fields.now) routine 0)
-        || get_or (row_at ends_row flags.now) routine false) }
+        counts_as_ended (get_or (row_at stages_row tables.now.fields) routine 0)
+        || get_or (row_at ends_row tables.now.flags) routine false) }
 {
-    counts_as_ended(field_at(fields, STAGES, routine)) || flag_at(flags, ENDS, routine)
+    counts_as_ended(tables.field(Field::Stage, routine)) || tables.flag(Flag::Ends, routine)
 }
 
-// Whether the first number of a pair stands for signal e. Two order tests say equal: == on signed numbers is a fact about their bits.
-fn is_signal(v: i32, e: usize) -> bool
+// Whether a pair has a number of signal e. `as` is proved to lose nothing; try_from would have a refusal that no call meets.
+fn is_of(pair: &[i32; 2], e: usize) -> bool
     requires { e < most_signals }
-    ensures { result ≡ eqb (first_of_pair v) e }
+    ensures { result ≡ eqb (first_of_pair (get_or pair.now 0 (pos 0))) e }
 {
-    let wanted = e as i32;
-    v <= wanted && wanted <= v
+    pair[0] == e as i32
 }
 
-// Which of the first pairs, so many, has the k-th number of signal e; their count where it is not given.
-fn find(given: &[i32], count: usize, e: usize, k: usize) -> usize
+// The k-th number of signal e among the first pairs, so many; none where it is not given. The numbers are plain and their count stands
+// beside them, since their slice is as long as the book needs (tables::Tables).
+fn find(given: &[i32], count: usize, e: usize, k: usize) -> Option<i32>
     requires { (count ≤ length given.now / 2) × (e < most_signals) × (0 < k) }
-    ensures count_value { ltb result count ≡ leb k (length (numbers_with e (take count (pairs_of given.now)))) }
-    ensures pos_value { result < count →
-        get_or given.now (2 * result + 1) (pos 0)
-        ≡ get_or (numbers_with e (take count (pairs_of given.now))) (k - 1) (pos 0) }
+    ensures { let ns = numbers_with e (take count (pairs_of given.now)) in
+        result ≡ (if leb k (length ns) then Some (get_or ns (k - 1) (pos 0)) else None) }
 {
-    let mut at: usize = 0;
-    let mut left = k;
-    while at < count {
-        if is_signal(given[2 * at], e) {
-            if left <= 1 {
-                return at;
-            }
-            left -= 1;
-        }
-        at += 1;
-    }
-    count
+    let (pairs, _) = given.as_chunks::<2>();
+    pairs[..count]
+        .iter()
+        .filter(|pair| is_of(pair, e))
+        .map(|pair| pair[1])
+        .nth(k - 1)
 }
 
 // A reading of the k-th number of signal e into counter c.
@@ -140,9 +132,8 @@ pub fn reads(
         else if eoi then Act.Halts Ending.Missed (ticks.fresh (x.place + 1))
         else Act.Halts Ending.Continued x) }
 {
-    let at = find(given, count, e, k);
-    if at < count {
-        return Act::Goes(x.place + 1, Effect::Put(c, given[2 * at + 1]));
+    match find(given, count, e, k) {
+        Some(number) => Act::Goes(x.place + 1, Effect::Put(c, number)),
+        None => when_missing(x, eoi, fresh(x.place + 1)),
     }
-    when_missing(x, eoi, fresh(x.place + 1))
 }

@@ -8,10 +8,10 @@ use native.Mathlib.Omega.{arith}
 use native.Mathlib.Decide.{ℕ_discrete}
 use borrow.Author.Tests.{ltb-true, ltb-false, eqb-true, eq-eqb}
 use lib.Dec.{ltb, eqb}
+use Rattle.std.specs.Prelude.{Some}
 use Rattle.numbers.proofs.Tests.{by_test}
 use Rattle.numbers.proofs.Counting.{count_all}
 use Rattle.kinds.specs.declared.Kind.TheVariants.{Start}
-use Rattle.kinds.specs.declared.Step.TheVariants as step
 use Rattle.kinds.specs.Ops.{op_start}
 use Rattle.kinds.specs.Steps.{op_at, field_a, steps_in}
 use Rattle.layout.specs.Layout.{most_routines, routines_of, counts_of}
@@ -19,7 +19,8 @@ use Rattle.directory.specs.Directory.{step_count, routine_steps, routine_step}
 use Rattle.book.specs.Accepted.{Accepted}
 use Rattle.book.proofs.Routines.{routine_steps_lem}
 use Rattle.unstarted.specs.Chains.{Starts, Chain, then}
-use Rattle.unstarted.specs.Unstarted.{Search, is_found, with_found, with_step, with_steps, with_starts, found_from}
+use Rattle.unstarted.specs.declared.Search.{Search}
+use Rattle.unstarted.specs.Unstarted.{is_found, with_found, with_step, with_steps, with_starts, found_from}
 use Rattle.unstarted.proofs.Starts.{start_op, start_field, starts_there, chain_below}
 use Rattle.unstarted.proofs.Finding.{IsFound, entry, IsEntry, Right, Closed, ClosedBefore, found_stays, entry_stays}
 use Rattle.unstarted.proofs.Finding.{closed_stays, found_right, now_found}
@@ -61,7 +62,7 @@ module _ (book : List ℕ) (accepted : Accepted book) where
     keeps_right r f s right = found_right book accepted r (then chain s) f right
 
     -- a step that starts r
-    module _ (r i : ℕ) (there : i < step_count book q) (starts : routine_step book q i ≡ step.Kind (Start r)) where
+    module _ (r i : ℕ) (there : i < step_count book q) (starts : routine_step book q i ≡ Some (Start r)) where
       step_finds : (f : Search) → Right book f → IsFound (with_step steps i f) r
       step_finds f right =
           rw (eq-eqb _ _ (start_op (counts_of book) steps i starts), start_field (counts_of book) steps i starts)

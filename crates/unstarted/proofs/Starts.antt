@@ -4,10 +4,10 @@ use Prim.Native.Nat.{ℕ, ◌<◌}
 use mathlib.Core.Path.{◌≡◌, refl, sym, ◌∙◌, ap}
 use mathlib.Core.List.{List}
 use lib.IntN.{ℤ}
+use Rattle.std.specs.Prelude.{Some}
 use Rattle.kinds.specs.Ops.{op_start}
 use Rattle.kinds.specs.declared.Kind.{Kind}
 use Rattle.kinds.specs.declared.Kind.TheVariants.{Start}
-use Rattle.kinds.specs.declared.Step.TheVariants as step
 use Rattle.kinds.specs.declared.Counts.{Counts}
 use Rattle.kinds.specs.Steps.{row_of, kind_of, op_at, field_a, field_b, field_n, step_at}
 use Rattle.kinds.proofs.Readable.{step_readable}
@@ -38,7 +38,7 @@ unfolding row_of
 start_count_lem op counts e = rw e
 
 -- a step that starts routine r
-module _ (counts : Counts) (steps : List ℕ) (p : ℕ) {r : ℕ} (starts : step_at counts steps p ≡ step.Kind (Start r)) where
+module _ (counts : Counts) (steps : List ℕ) (p : ℕ) {r : ℕ} (starts : step_at counts steps p ≡ Some (Start r)) where
   pub start_op : op_at steps p ≡ op_start
   start_op = kind_holds (StartsAlone r) counts steps p (table_starts r (field_a steps p) (field_b steps p) (field_n steps p)) starts refl
 
@@ -52,12 +52,12 @@ module _ (book : List ℕ) (accepted : Accepted book) where
   -- a step of op 13 starts the routine of its field
   pub starts_there :
       (q p : ℕ) → q < routines_of book → p < step_count book q → op_at (routine_steps book q) p ≡ op_start →
-      routine_step book q p ≡ step.Kind (Start (field_a (routine_steps book q) p))
+      routine_step book q p ≡ Some (Start (field_a (routine_steps book q) p))
   starts_there q p below l h =
       let steps = routine_steps book q in
       let (k, shown) = shown_kind book accepted q below p l in
       let e = rw (shown_routine book accepted q below) at shown in
-      e ∙ ap step.Kind (sym (row_kind (counts_of book) steps p e) ∙ start_row (op_at steps p) _ _ _ h)
+      e ∙ ap Some (sym (row_kind (counts_of book) steps p e) ∙ start_row (op_at steps p) _ _ _ h)
 
   -- a chain leads to routines of the book alone
   pub chain_below : {r : ℕ} → Chain book r → r < routines_of book

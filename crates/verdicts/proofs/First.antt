@@ -2,13 +2,14 @@
 -- By the number of places, after the laws of one answer or else another, which are by cases on whether the first accepts.
 use Prim.Native.Nat.{ℕ, zero, suc, ◌+◌, ◌-◌, ◌≤◌, ◌<◌}
 use mathlib.Core.Path.{◌≡◌, refl, sym, ◌∙◌, ap}
+use mathlib.Core.Bool.{Bool, true, false}
 use native.Mathlib.Nat.{sub-zero, sub-eq-zero_of_le}
 use native.Mathlib.Omega.{arith}
 use native.Mathlib.Decide.{ℕ_discrete}
 use borrow.Author.Tests.{eq-eqb, ne_eqb}
 use Rattle.numbers.proofs.Left.{more_left}
 use Rattle.verdicts.specs.declared.Verdict.{Verdict}
-use Rattle.verdicts.specs.Verdicts.{accepted, refused, ◌or_else◌, first_refusal}
+use Rattle.verdicts.specs.Verdicts.{accepted, refused, ◌or_else◌, unless, first_refusal}
 
 pub or_else_clear : (v w : Verdict) → v.number ≡ 0 → (v or_else w) ≡ w
 or_else_clear v w h = rw (eq-eqb v.number 0 h)
@@ -34,6 +35,13 @@ or_else_again v w =
     elim (ℕ_discrete v.number 0) [
       | yes e ↦ or_else_clear v (v or_else w) e
       | no n ↦ or_else_refused v (v or_else w) n ∙ sym (or_else_refused v w n)
+    ]
+
+pub or_else_assoc : (u v w : Verdict) → ((u or_else v) or_else w) ≡ (u or_else (v or_else w))
+or_else_assoc u v w =
+    elim (ℕ_discrete u.number 0) [
+      | yes e ↦ rw (or_else_clear u v e, or_else_clear u (v or_else w) e)
+      | no n ↦ rw (or_else_refused u v n, or_else_refused u (v or_else w) n, or_else_refused u w n)
     ]
 
 -- what holds at j, and at each place from j + 1 to e, holds at each from j to e
@@ -82,6 +90,11 @@ module _ (at : ℕ → Verdict) where
             or_else_clear (at j) (first_refusal at n (j + 1)) (clear j (omega arith) (omega arith))
             ∙ first_is n (j + 1) i (omega arith) (omega arith) h (λ k a b. clear k (omega arith) b)
       ]
+
+-- a test that tells nothing has passed
+pub passed : (t : Bool) (k p : ℕ) → (k ≡ 0 → ⊥) → (unless t (refused k p)).number ≡ 0 → t ≡ true
+passed true k p h e = refl
+passed false k p h e = absurd (h e)
 
 -- the tests at the first n places tell nothing exactly where what they ask holds
 pub record Decides (at : ℕ → Verdict) (n : ℕ) (Good : ℕ → Type 0) : Type 0 where

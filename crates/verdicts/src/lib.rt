@@ -1,12 +1,12 @@
 #![tactic(auto)]
-// What reading a book answers, and the number and place that it stands for. Document 01, "Turned down because of the input".
+// What a call is turned down for, and the number and place that it stands for. Document 01, "Turned down because of the input" and
+// "Turned down because of the state".
 ghost use Rattle.std.specs.Prelude.{◌≡◌};
 ghost use Rattle.verdicts.specs.Verdicts.{refused, verdict_of, ◌or_else◌};
 
-// What reading a book answers: accepted, or the first refusal that applies, with its place where it has one.
-#[derive(Clone, Copy)]
-pub enum BookAnswer {
-    Accepted,
+// Why a call is turned down, with its place where it has one. Numbers 1 to 7 are a book's; 11 is never told.
+#[derive(Clone, Copy, PartialEq, Eq)]
+pub enum Refusal {
     TooShort,
     WrongCount,
     WrongLayout,
@@ -14,41 +14,58 @@ pub enum BookAnswer {
     WrongStep(u32),
     WrongNesting(u32),
     WithoutPause(u32),
+    WrongOrder,
+    Unfit,
+    ShortMarks,
+    ShortNames,
+    WrongForm,
+    ShortBuffer,
 }
 
-// A refusal's number and place; both 0 where nothing is turned down.
+// A refusal's number and place, as C is given them (`zulqenat_check_book`); both 0 where nothing is turned down.
 #[repr(C)]
-#[derive(Clone, Copy)]
+#[derive(Clone, Copy, PartialEq, Eq, Default)]
 pub struct Verdict {
     pub number: u32,
     pub place: u32,
 }
 
-// The numbers that reading the blocks of a book tells at once.
-pub const WRONG_STEP: u32 = 5;
+// The number and the place of a refusal.
+impl From<Refusal> for Verdict {
+    ghost use Rattle.verdicts.specs.Verdicts.{told};
 
-pub const WRONG_NESTING: u32 = 6;
+    ghost from_gives = { λ refusal verdict. verdict ≡ told refusal };
 
-// The number that is told of a game that does not fit its book.
-pub const UNFIT: u32 = 9;
-
-// The number and the place of an answer.
-pub fn verdict_of(answer: BookAnswer) -> Verdict
-    ensures { result ≡ verdict_of answer }
-{
-    match answer {
-        BookAnswer::Accepted => as_verdict(0, 0),
-        BookAnswer::TooShort => as_verdict(1, 0),
-        BookAnswer::WrongCount => as_verdict(2, 0),
-        BookAnswer::WrongLayout => as_verdict(3, 0),
-        BookAnswer::WrongEntry(routine) => as_verdict(4, routine),
-        BookAnswer::WrongStep(step) => as_verdict(WRONG_STEP, step),
-        BookAnswer::WrongNesting(step) => as_verdict(WRONG_NESTING, step),
-        BookAnswer::WithoutPause(step) => as_verdict(7, step),
+    fn from(refusal: Refusal) -> Verdict {
+        match refusal {
+            Refusal::TooShort => as_verdict(1, 0),
+            Refusal::WrongCount => as_verdict(2, 0),
+            Refusal::WrongLayout => as_verdict(3, 0),
+            Refusal::WrongEntry(routine) => as_verdict(4, routine),
+            Refusal::WrongStep(step) => as_verdict(5, step),
+            Refusal::WrongNesting(step) => as_verdict(6, step),
+            Refusal::WithoutPause(step) => as_verdict(7, step),
+            Refusal::WrongOrder => as_verdict(8, 0),
+            Refusal::Unfit => as_verdict(9, 0),
+            Refusal::ShortMarks => as_verdict(10, 0),
+            Refusal::ShortNames => as_verdict(12, 0),
+            Refusal::WrongForm => as_verdict(13, 0),
+            Refusal::ShortBuffer => as_verdict(14, 0),
+        }
     }
 }
 
-// A number and a place as a verdict.
+// The number and the place of an answer. A function and no From: the clauses of the calls name it, as the definition `verdict_of`.
+pub fn verdict_of<T: Drop>(answer: Result<T, Refusal>) -> Verdict
+    ensures { result ≡ verdict_of answer }
+{
+    match answer {
+        Ok(_) => as_verdict(0, 0),
+        Err(refusal) => Verdict::from(refusal),
+    }
+}
+
+// A number and a place as a verdict; both 0 is that of nothing turned down, which C reads as such.
 pub fn as_verdict(number: u32, place: u32) -> Verdict
     ensures { result ≡ refused number place }
 {
@@ -56,12 +73,8 @@ pub fn as_verdict(number: u32, place: u32) -> Verdict
 }
 
 // The first of two answers that is a refusal; the second where neither is one.
-pub fn first_book_answer(one: BookAnswer, other: BookAnswer) -> BookAnswer
+pub fn first_refused(one: Result<(), Refusal>, other: Result<(), Refusal>) -> Result<(), Refusal>
     ensures { verdict_of result ≡ (verdict_of one or_else verdict_of other) }
 {
-    if verdict_of(one).number == 0 {
-        other
-    } else {
-        one
-    }
+    one.and(other)
 }

@@ -1,20 +1,24 @@
 #![tactic(auto)]
 // The words of a line of text.
-ghost use Rattle.std.specs.Prelude.{◌≡◌, ◌≤◌, max, length, take};
+ghost use Rattle.std.specs.Prelude.{◌≡◌, ◌≤◌, ◌==◌, max, length, take};
+ghost use Rattle.std.specs.List.{position};
 ghost use Rattle.words.specs.Words.{found_at, first_of, rest_of, is_same, place_of};
+
+// The place of the first `c`, where there is one.
+fn place(text: &[u8], c: u8) -> Option<usize>
+    ensures { result ≡ position (λ b. b == c) text.now }
+{
+    text.iter().position(|b| *b == c)
+}
 
 // The place of the first `c` from `from` on; where there is none, the text's length, or `from` if that is further.
 pub fn find(text: &[u8], from: usize, c: u8) -> usize
     ensures { (result ≡ found_at text.now from c) × (from ≤ result) × (result ≤ max from (length text.now)) }
 {
-    let mut at = from;
-    while at < text.len() {
-        if text[at] == c {
-            return at;
-        }
-        at += 1;
+    if text.len() < from {
+        return from;
     }
-    at
+    from + place(&text[from..], c).unwrap_or(text.len() - from)
 }
 
 // What stands before the first space.
@@ -22,7 +26,7 @@ pub fn first(text: &[u8]) -> &[u8]
     ensures { result.now ≡ first_of text.now }
 {
     let end = find(text, 0, b' ');
-    &text[0..end]
+    &text[..end]
 }
 
 // What stands behind the first space; nothing where there is none.
@@ -30,42 +34,31 @@ pub fn rest(text: &[u8]) -> &[u8]
     ensures { result.now ≡ rest_of text.now }
 {
     let end = find(text, 0, b' ');
-    if end < text.len() {
-        let next = end + 1;
-        return &text[next..];
-    }
-    &text[end..]
+    text.get(end + 1..).unwrap_or(&[])
 }
 
+// Whether two words have the same bytes: `==` by a public name, which stays.
+#[tactic(auto, unfolding(crate::specs::Words::is_same))]
 pub fn is(word: &[u8], name: &[u8]) -> bool
     ensures { result ≡ is_same word.now name.now }
 {
-    if word.len() != name.len() {
-        return false;
-    }
-    let mut at: usize = 0;
-    while at < name.len() {
-        if word[at] != name[at] {
-            return false;
-        }
-        at += 1;
-    }
-    true
+    word == name
 }
 
-// The number of a word in a list of names with a space between them, from 0 on; the number of names for any other word.
+// The number of a word in a list of names with a space between them, from 0 on; the number of names for any other word, as
+// the definition `place_of` has it: no Option, since what a public function answers may not change.
 pub fn place_in(names: &[u8], word: &[u8]) -> usize
     ensures { result ≡ place_of names.now word.now }
 {
+    // A `while`, since `split` would give one name more behind a last space, and one where there are none.
+    let mut left = names;
     let mut count: usize = 0;
-    let mut at: usize = 0;
-    while at < names.len() {
-        let end = find(names, at, b' ');
-        if is(word, &names[at..end]) {
+    while !left.is_empty() {
+        if is(first(left), word) {
             return count;
         }
         count += 1;
-        at = end + 1;
+        left = rest(left);
     }
     count
 }
@@ -74,8 +67,5 @@ pub fn place_in(names: &[u8], word: &[u8]) -> usize
 pub fn part(bytes: &[u8], count: usize) -> &[u8]
     ensures { result.now ≡ take count bytes.now }
 {
-    if bytes.len() < count {
-        return bytes;
-    }
-    &bytes[0..count]
+    bytes.get(..count).unwrap_or(bytes)
 }

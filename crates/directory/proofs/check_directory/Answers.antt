@@ -1,76 +1,59 @@
--- `directory::check_directory` meets its contract. The invariant: the search for the first wrong entry from `routine` on is the whole
--- search, and `sum` is the sum of the counts before `routine`.
+-- `directory::check_directory` meets its contract: the first entry that does not follow those before it is told, or else the total.
 use Prim.Native.Nat.{ℕ, ◌+◌, ◌<◌, ◌≤◌}
 use mathlib.Core.Path.{◌≡◌, refl, sym, ◌∙◌}
 use mathlib.Core.List.{List}
-use native.Mathlib.Omega.{arith}
 use native.Mathlib.Numerals.{add-one}
+use native.Mathlib.Omega.{arith}
+use borrow.Author.Count.{below_more}
 use borrow.Author.Rules.{rules}
-use borrow.Author.Tests.{eq-eqb, ne_eqb}
-use lib.Dec.{eqb}
-use Rattle.std.specs.Prelude.{if◌then◌else◌}
 use Rattle.numbers.specs.Counting.{sum_below}
-use Rattle.verdicts.specs.Verdicts.{accepted, refused, first_refusal}
+use Rattle.verdicts.specs.Verdicts.{accepted, refused}
 use Rattle.layout.specs.Layout.{routines_of, steps_of}
-use Rattle.directory.specs.Directory.{first_step, step_count, steps_before, entry_verdict, directory_verdict}
-use Rattle.verdicts.proofs.First.{first_begins, first_stops, first_goes, first_ends}
-use Rattle.directory.proofs.check_directory.Invariants.{search_from}
+use Rattle.directory.specs.Directory.{first_step, step_count, steps_before, EntriesFollow, directory_verdict}
+use Rattle.directory.proofs.Directory.{directory_clear, total_told, entry_told}
 use Rattle.directory.proofs.check_directory.Goals as goal
-
-module _
-    (s : List ℕ) (all r sum : ℕ) (whole : search_from s all r ≡ first_refusal (entry_verdict s) all 0) (before : sum ≡ steps_before s r)
-  where
-    goes : r < all → first_step s r ≡ sum → search_from s all (r + 1) ≡ first_refusal (entry_verdict s) all 0
-    goes h e = sym (first_goes (entry_verdict s) all r h (rw (eq-eqb _ _ (e ∙ before)))) ∙ whole
-
-    module _ (known : all ≡ routines_of s) where
-      stops : r < all → (first_step s r ≡ sum → ⊥) → refused 4 r ≡ directory_verdict s
-      unfolding directory_verdict
-      stops h e =
-          let wrong : entry_verdict s r ≡ refused 4 r = rw (ne_eqb _ _ (λ z. e (z ∙ sym before))) in
-          let first : first_refusal (entry_verdict s) all 0 ≡ refused 4 r =
-          sym whole ∙ first_stops (entry_verdict s) all r h (rw wrong (λ z. omega (arith, z))) ∙ wrong in
-          rw (← known, first)
-
-      ends : all ≤ r → r ≤ all → directory_verdict s ≡ (if eqb sum (steps_of s) then accepted else refused 4 r)
-      unfolding directory_verdict
-      ends h k =
-          let first : first_refusal (entry_verdict s) all 0 ≡ accepted = sym whole ∙ first_ends (entry_verdict s) all r h in
-          let last : all ≡ r = omega arith in
-          rw (← known, first, last, ← before)
 
 after : (s : List ℕ) (r : ℕ) → steps_before s (r + 1) ≡ steps_before s r + step_count s r
 unfolding steps_before sum_below
 after s r = rw (add-one r)
 
+module _ (s : List ℕ) {all r sum : ℕ} (known : all ≡ routines_of s) (entries : EntriesFollow s r) (before : sum ≡ steps_before s r) where
+  stops : r < all → {first : ℕ} → first ≡ first_step s r → (first ≡ sum → ⊥) → refused 4 r ≡ directory_verdict s
+  stops h f n = sym (entry_told s r (omega arith) entries (λ e. n (f ∙ e ∙ sym before)))
+
+  module _ (end : all ≤ r) (within : r ≤ all) {total : ℕ} (count : total ≡ steps_of s) where
+    last : r ≡ routines_of s
+    last = omega arith
+
+    wrong_total : (sum ≡ total → ⊥) → refused 4 all ≡ directory_verdict s
+    wrong_total n = rw known (sym (total_told s (rw last at entries) (λ e. n (before ∙ rw last (e ∙ sym count)))))
+
+    right_total : sum ≡ total → accepted ≡ directory_verdict s
+    right_total e = sym (directory_clear s (rw last at entries) (rw last at (sym before ∙ e ∙ count)))
+
 pub loop-routine-init : goal.loop-routine-init
 unfolding steps_before sum_below
-loop-routine-init c = (first_begins _ _, refl, search rules, search rules)
+loop-routine-init c = (λ k l. absurd (omega arith), refl, search rules)
 
 pub returns-then-first_step-sum : goal.returns-then-first_step-sum
 returns-then-first_step-sum c =
-    let l = c.before.before.before in
-    stops _ _ _ _ l.loop-routine.invariant.0 l.loop-routine.invariant.1 l.routines-all.ensures.0 c.loop-routine-test.true
-    (λ e. c.if-first_step-sum.true (c.first_step.ensures.0 ∙ e))
+    let l = c.loop-routine.invariant in
+    stops _ c.routines-all.ensures.0 l.0 l.1 c.loop-routine-test.true c.first_step.ensures.0 c.if-first_step-sum.true
 
 pub loop-routine-preserved : goal.loop-routine-preserved
 loop-routine-preserved c =
-    let l = c.before.before.before.before in (
-      goes _ _ _ _ l.loop-routine.invariant.0 l.loop-routine.invariant.1 c.loop-routine-test.true
-          (sym c.first_step.ensures.0 ∙ c.if-first_step-sum.false),
-      rw (after, ← c.step_count-sum.ensures.0, ← l.loop-routine.invariant.1),
-      search rules,
-      search rules,
-    )
+    let l = c.loop-routine.invariant in
+    let follows = sym c.first_step.ensures.0 ∙ c.if-first_step-sum.false ∙ l.1 in
+    (below_more _ _ l.0 follows, rw (after, ← c.step_count-sum.ensures.0, ← l.1), search rules)
 
 pub returns-then-sum-steps : goal.returns-then-sum-steps
 returns-then-sum-steps c =
     let l = c.loop-routine.invariant in
-    let verdict = ends _ _ _ _ l.0 l.1 c.routines-all.ensures.0 c.loop-routine-test.false l.2 in
-    rw (verdict, ← c.steps.ensures.0, ne_eqb _ _ c.if-sum-steps.true)
+    wrong_total _ c.routines-all.ensures.0 l.0 l.1 c.loop-routine-test.false c.loop-routine.auto.routine-end
+    c.steps.ensures.0 c.if-sum-steps.true
 
 pub returns : goal.returns
 returns c =
     let l = c.loop-routine.invariant in
-    let verdict = ends _ _ _ _ l.0 l.1 c.routines-all.ensures.0 c.loop-routine-test.false l.2 in
-    rw (verdict, ← c.steps.ensures.0, eq-eqb _ _ c.if-sum-steps.false)
+    right_total _ c.routines-all.ensures.0 l.0 l.1 c.loop-routine-test.false c.loop-routine.auto.routine-end
+    c.steps.ensures.0 c.if-sum-steps.false

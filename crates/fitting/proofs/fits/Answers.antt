@@ -1,30 +1,29 @@
--- `fitting::fits` meets its contract. Each test of the code is one of the contract, in the same order; the flags that the lists leave tell
--- which routines are in them. The invariant: every slot before `at` fits.
--- The arrays of the lent game are as long as their types say.
+-- `fitting::fits` meets its contract: each test of the code is one of the contract. The flags that the lists leave tell which routines are
+-- in them. The arrays of the lent game are as long as their types say.
 use Prim.Native.Nat.{ℕ, ◌<◌}
 use mathlib.Core.Path.{◌≡◌, refl, sym, subst, ◌∙◌}
-use mathlib.Core.Bool.{Bool, true, false, ◌&&◌}
+use mathlib.Core.Bool.{Bool, true, false, ◌&&◌, not, and-false, and_assoc, and_comm, not-not}
 use mathlib.Core.List.{List}
 use native.Mathlib.Omega.{arith}
 use borrow.Author.Rules.{rules}
-use lib.Dec.{ltb}
+use lib.Dec.{ltb, eqb}
 use lib.ListN.{get_or}
 use Rattle.std.specs.Prelude.{if◌then◌else◌}
 use Rattle.numbers.specs.Numbers.{byte_limit}
 use Rattle.numbers.specs.Counting.{all_below}
-use Rattle.numbers.proofs.Tests.{both_true}
 use Rattle.numbers.proofs.Below.{all_fails, all_next, all_ends}
 use Rattle.kinds.specs.declared.Counts.{Counts}
 use Rattle.layout.specs.Layout.{most_routines, counts_of}
 use Rattle.game.specs.declared.Game.{Game}
 use Rattle.game.specs.Game.{routine_at}
-use Rattle.fitting.specs.Arrays.{line_fits, counters_fit, signals_fit, Flagged}
+use Rattle.fitting.specs.Arrays.{Flagged}
 use Rattle.fitting.specs.Routines.{is_blank, routine_fits, slot_fits}
 use Rattle.fitting.specs.Fitting.{same_counts, is_sized, fits_book}
 use Rattle.fitting.proofs.Sizes.{is_sized_lem, length_mapped}
 use Rattle.fitting.proofs.fits.Goals as goal
+use Rattle.fitting.proofs.fits.Goals.{then-not-counters_fit-via-then-not-counters_fit, then-not-counters_fit-via-else-not-counters_fit+then-not-signals_fit}
 
-sized : (c : goal.After-loop-at) → is_sized c.args.game ≡ true
+sized : (c : goal.After-loop-routine) → is_sized c.args.game ≡ true
 sized c =
     (is_sized_lem c.args.game).1
     (record {
@@ -35,130 +34,90 @@ sized c =
       broadcast = search (rules, length_mapped);
     })
 
--- the answer of the call is the contract's test of the counts
+-- the counts are compared in the order in which they stand
+counts_same :
+    (a b : Counts) →
+    not (not (eqb a.routines b.routines && (eqb a.signals b.signals && eqb a.counters b.counters))) ≡ same_counts a b
+counts_same a b = rw (not-not, and_comm (eqb a.signals b.signals), and_assoc)
+
 counted :
-    (one given : Counts) (s : List ℕ) {answer t : Bool} → given ≡ counts_of s → answer ≡ same_counts one given → answer ≡ t →
-    same_counts one (counts_of s) ≡ t
-counted one given s {t = t} e f h = subst (λ (z : Counts). same_counts one z ≡ t) e (sym f ∙ h)
+    (s : List ℕ) (a b : Counts) {differ t : Bool} → b ≡ counts_of s →
+    differ ≡ not (eqb a.routines b.routines && (eqb a.signals b.signals && eqb a.counters b.counters)) → differ ≡ t →
+    same_counts a (counts_of s) ≡ not t
+counted s a b {t = t} e f h =
+    subst (λ (z : Counts). same_counts a z ≡ not t) e (rw (← h, f) (sym (counts_same a b)))
 
--- how far the code came, by the contract's tests: each is passed behind the one before it
-module _ (s : List ℕ) (g : Game) where
-  abbrev to_counts : Bool
-  to_counts = same_counts g.counts (counts_of s)
+-- the answer of the call is the contract's test of this slot: the flags tell whether the routine is in either list
+slot :
+    (s : List ℕ) (g : Game) (listed starting : List Bool) (at : ℕ) {answer : Bool} →
+    Flagged listed g.listed → Flagged starting g.starting → at < byte_limit →
+    answer
+    ≡ (
+    if ltb at g.counts.routines
+    then routine_fits s at (routine_at g at) (get_or listed at false) (get_or starting at false)
+    else is_blank (routine_at g at)) →
+    answer ≡ slot_fits s g at
+unfolding slot_fits
+slot s g listed starting at f h small e = rw (← (f at small), ← (h at small)) e
 
-  abbrev to_listed : Bool
-  to_listed = to_counts && line_fits g.listed g.counts.routines
+pub returns-then-ne : goal.returns-then-ne
+unfolding fits_book
+returns-then-ne c = rw (counted c.args.book.now c.args.game.counts c.counts_of.result c.counts_of.ensures c.ne.ensures c.if-ne.true)
 
-  abbrev to_starting : Bool
-  to_starting = to_listed && line_fits g.starting g.counts.routines
+pub returns-in_default : goal.returns-in_default
+unfolding fits_book
+returns-in_default c = rw (c.in_default.ensures, and-false)
 
-  abbrev to_counters : Bool
-  to_counters = to_starting && counters_fit g.counters g.counts.counters
-
-  abbrev to_signals : Bool
-  to_signals = to_counters && signals_fit g.broadcast g.counts.signals
-
-  other_counts : to_counts ≡ false → false ≡ fits_book s g
-  unfolding fits_book
-  other_counts h = rw h
-
-  other_listed : to_counts ≡ true → line_fits g.listed g.counts.routines ≡ false → false ≡ fits_book s g
-  unfolding fits_book
-  other_listed past h = rw (past, h)
-
-  other_starting : to_listed ≡ true → line_fits g.starting g.counts.routines ≡ false → false ≡ fits_book s g
-  unfolding fits_book
-  other_starting past h = rw (past, h)
-
-  other_counters : to_starting ≡ true → counters_fit g.counters g.counts.counters ≡ false → false ≡ fits_book s g
-  unfolding fits_book
-  other_counters past h = rw (past, h)
-
-  other_signals : to_counters ≡ true → signals_fit g.broadcast g.counts.signals ≡ false → false ≡ fits_book s g
-  unfolding fits_book
-  other_signals past h = rw (past, h)
-
-  other_slots : to_signals ≡ true → all_below most_routines (slot_fits s g) ≡ false → false ≡ fits_book s g
-  unfolding fits_book
-  other_slots past h = rw (past, h)
-
-  all_fit : to_signals ≡ true → all_below most_routines (slot_fits s g) ≡ true → is_sized g ≡ true → true ≡ fits_book s g
-  unfolding fits_book
-  all_fit past h sized = rw (past, h, sized)
-
-  -- the answer of the call is the contract's test of this slot: the flags tell whether the routine is in either list
-  slot :
-      (listed starting : List Bool) (at : ℕ) {answer : Bool} → Flagged listed g.listed → Flagged starting g.starting → at < byte_limit →
-      answer
-      ≡ (
-      if ltb at g.counts.routines
-      then routine_fits s at (routine_at g at) (get_or listed at false) (get_or starting at false)
-      else is_blank (routine_at g at)) →
-      answer ≡ slot_fits s g at
-  unfolding slot_fits
-  slot listed starting at f h small e = rw (← (f at small), ← (h at small)) e
-
-pub returns-then-not-same_counts : goal.returns-then-not-same_counts
-returns-then-not-same_counts c =
-    other_counts _ _ (counted _ _ c.args.book.now c.counts_of.ensures c.same_counts.ensures c.if-not-same_counts.true)
-
-pub returns-then-not-line_fits : goal.returns-then-not-line_fits
-returns-then-not-line_fits c =
-    let counts = counted _ _ c.args.book.now c.counts_of.ensures c.same_counts.ensures c.if-not-same_counts.false in
-    other_listed _ _ counts (sym c.line_fits.ensures.value ∙ c.if-not-line_fits.true)
-
-pub returns-then-not-line_fits-2 : goal.returns-then-not-line_fits-2
-returns-then-not-line_fits-2 c =
-    let counts = counted _ _ c.args.book.now c.counts_of.ensures c.same_counts.ensures c.if-not-same_counts.false in
-    let listed = both_true counts (sym c.line_fits.ensures.value ∙ c.if-not-line_fits.false) in
-    other_starting _ _ listed (sym c.line_fits-2.ensures.value ∙ c.if-not-line_fits-2.true)
+pub returns-in_default-routines_in : goal.returns-in_default-routines_in
+unfolding fits_book
+returns-in_default-routines_in c = rw (c.in_default-routines_in.ensures, and-false)
 
 pub returns-then-not-counters_fit : goal.returns-then-not-counters_fit
+unfolding fits_book
 returns-then-not-counters_fit c =
-    let counts = counted _ _ c.args.book.now c.counts_of.ensures c.same_counts.ensures c.if-not-same_counts.false in
-    let listed = both_true counts (sym c.line_fits.ensures.value ∙ c.if-not-line_fits.false) in
-    let starting = both_true listed (sym c.line_fits-2.ensures.value ∙ c.if-not-line_fits-2.false) in
-    other_counters _ _ starting (sym c.counters_fit.ensures ∙ c.if-not-counters_fit.true)
+    elim c.then-not-counters_fit.branch [
+      | then-not-counters_fit-via-then-not-counters_fit w ↦ rw (← c.counters_fit.ensures, w.if-not-counters_fit.true, and-false)
+      | then-not-counters_fit-via-else-not-counters_fit+then-not-signals_fit w ↦
+          rw (← w.signals_fit.ensures, w.if-not-signals_fit.true, and-false)
+    ]
 
-pub returns-then-not-signals_fit : goal.returns-then-not-signals_fit
-returns-then-not-signals_fit c =
-    let counts = counted _ _ c.args.book.now c.counts_of.ensures c.same_counts.ensures c.if-not-same_counts.false in
-    let listed = both_true counts (sym c.line_fits.ensures.value ∙ c.if-not-line_fits.false) in
-    let starting = both_true listed (sym c.line_fits-2.ensures.value ∙ c.if-not-line_fits-2.false) in
-    let counters = both_true starting (sym c.counters_fit.ensures ∙ c.if-not-counters_fit.false) in
-    other_signals _ _ counters (sym c.signals_fit.ensures ∙ c.if-not-signals_fit.true)
-
-pub loop-at-init : goal.loop-at-init
+pub loop-routine-init : goal.loop-routine-init
 unfolding all_below
-loop-at-init c = (refl, search rules)
+loop-routine-init c = refl
 
 pub returns-then-not-slot_fits : goal.returns-then-not-slot_fits
+unfolding fits_book
 returns-then-not-slot_fits c =
-    let l = c.loop-at in
-    let counts = counted _ _ c.args.book.now c.counts_of.ensures c.same_counts.ensures c.if-not-same_counts.false in
-    let listed = both_true counts (sym c.line_fits.ensures.value ∙ c.if-not-line_fits.false) in
-    let starting = both_true listed (sym c.line_fits-2.ensures.value ∙ c.if-not-line_fits-2.false) in
-    let counters = both_true starting (sym c.counters_fit.ensures ∙ c.if-not-counters_fit.false) in
-    let signals = both_true counters (sym c.signals_fit.ensures ∙ c.if-not-signals_fit.false) in
-    let tested =
-    slot c.args.book.now c.args.game _ _ l.at (c.line_fits.ensures.flagged c.if-not-line_fits.false)
-    (c.line_fits-2.ensures.flagged c.if-not-line_fits-2.false) (omega arith) c.slot_fits.ensures in
-    other_slots _ _ signals (all_fails (slot_fits _ _) most_routines l.at c.loop-at-test.true (sym tested ∙ c.if-not-slot_fits.true))
+    let l = c.loop-routine in
+    let s = c.args.book.now in
+    let g = c.args.game in
+    let listed = c.in-Some.ensures.1 in
+    let starting = c.in-Some-routines_in.ensures.1 in
+    let tested = slot s g _ _ l.routine listed starting (omega arith) c.slot_fits.ensures in
+    rw (all_fails (slot_fits s g) most_routines l.routine c.loop-routine-test.true (sym tested ∙ c.if-not-slot_fits.true), and-false)
 
-pub loop-at-preserved : goal.loop-at-preserved
-loop-at-preserved c =
-    let l = c.loop-at in
-    let tested =
-    slot c.args.book.now c.args.game _ _ l.at (c.line_fits.ensures.flagged c.if-not-line_fits.false)
-    (c.line_fits-2.ensures.flagged c.if-not-line_fits-2.false) (omega arith) c.slot_fits.ensures in
-    (all_next (slot_fits _ _) l.at l.invariant.0 (sym tested ∙ c.if-not-slot_fits.false), search rules)
+pub loop-routine-preserved : goal.loop-routine-preserved
+loop-routine-preserved c =
+    let l = c.loop-routine in
+    let s = c.args.book.now in
+    let g = c.args.game in
+    let listed = c.in-Some.ensures.1 in
+    let starting = c.in-Some-routines_in.ensures.1 in
+    let tested = slot s g _ _ l.routine listed starting (omega arith) c.slot_fits.ensures in
+    all_next (slot_fits s g) l.routine l.invariant (sym tested ∙ c.if-not-slot_fits.false)
 
 pub returns : goal.returns
+unfolding fits_book
 returns c =
-    let l = c.loop-at in
-    let counts = counted _ _ c.args.book.now c.counts_of.ensures c.same_counts.ensures c.if-not-same_counts.false in
-    let listed = both_true counts (sym c.line_fits.ensures.value ∙ c.if-not-line_fits.false) in
-    let starting = both_true listed (sym c.line_fits-2.ensures.value ∙ c.if-not-line_fits-2.false) in
-    let counters = both_true starting (sym c.counters_fit.ensures ∙ c.if-not-counters_fit.false) in
-    let signals = both_true counters (sym c.signals_fit.ensures ∙ c.if-not-signals_fit.false) in
-    all_fit _ _ signals (all_ends (slot_fits _ _) l.invariant.0 l.invariant.1 c.loop-at-test.false) (sized c)
+    let l = c.loop-routine in
+    let s = c.args.book.now in
+    let g = c.args.game in
+    rw (
+      counted s g.counts c.counts_of.result c.counts_of.ensures c.ne.ensures c.if-ne.false,
+      c.in-Some.ensures.0,
+      c.in-Some-routines_in.ensures.0,
+      sym c.counters_fit.ensures ∙ c.if-not-counters_fit.false,
+      sym c.signals_fit.ensures ∙ c.if-not-signals_fit.false,
+      all_ends (slot_fits s g) {n = most_routines} l.invariant l.auto.routine-end c.loop-routine-test.false,
+      sized c,
+    )

@@ -9,7 +9,6 @@ use Rattle.book.specs.Accepted.{Accepted}
 use Rattle.book.proofs.Reasons.{number_accepted, accepted_exactly}
 use Rattle.game.specs.Game.{blank_game}
 use Rattle.setup.specs.SetUp.{set_up}
-use Rattle.stored_games.proofs.Forms.{form1_usable}
 use Rattle.storing.proofs.Answers.{book_refuses}
 use Rattle.kept_games.specs.Kept.{set_up_kept}
 use Rattle.keeping.proofs.set_up_kept.Goals as goal
@@ -33,10 +32,10 @@ store_fitting-requires c =
     let given = rw c.blank_game.ensures at c.set_up-given.ensures.0 in
     let a = accepted_book (told _ given) c.if-told-ne0.false in
     let fits = c.set_up-given.ensures.1 (told _ given ∙ (accepted_exactly _).1 a) in
-    rw c.form_1.ensures (record { usable = form1_usable; accepted = (a, fits) })
+    (a, fits)
 
 pub returns : goal.returns
 unfolding set_up_kept
 returns c =
     let given = rw c.blank_game.ensures at c.set_up-given.ensures.0 in
-    rw (c.form_1.ensures, given) at c.store_fitting.ensures
+    c.from.ensures _ ∙ (rw (c.form_1.ensures, given) at c.store_fitting.ensures)

@@ -1,41 +1,28 @@
--- `lines::is_in` meets its contract. The invariant: none of the entries before `at` is the routine.
-use Prim.Native.Nat.{ℕ, ◌<◌, ◌≤◌}
-use mathlib.Core.Path.{◌≡◌, refl}
-use mathlib.Core.Bool.{true, false}
+-- `lines::is_in` meets its contract: a routine is among the entries that count where it is one of the first so many items.
+use Prim.Native.Nat.{ℕ, zero, suc, ◌≤◌}
+use mathlib.Core.Path.{◌≡◌, refl, ◌∙◌}
+use mathlib.Core.Bool.{Bool}
+use mathlib.Core.List.{List}
+use native.Mathlib.Numerals.{add-one}
+use native.Mathlib.Omega.{arith}
 use borrow.Author.Rules.{rules}
-use borrow.Author.Tests.{eq-eqb, ne_eqb}
-use Rattle.lines.specs.declared.Line.{Line}
+use lib.Dec.{eqb}
+use lib.ListN.{length, get_or, take}
+use Rattle.std.specs.List.{list_any}
+use Rattle.std.proofs.lemmas.List.Folds.{list_any_more}
 use Rattle.numbers.specs.Counting.{any_below}
-use Rattle.lines.specs.Lines.{item_at, used_of, is_in}
-use Rattle.numbers.proofs.Below.{any_holds, any_next, any_ends}
-use Rattle.lines.proofs.is_in.Invariants.{is_at}
+use Rattle.lines.specs.Lines.{is_in}
 use Rattle.lines.proofs.is_in.Goals as goal
 
-module _ (line : Line) (r : ℕ) {all : ℕ} (count : all ≡ used_of line) (at : ℕ) where
-  found : at < all → item_at line at ≡ r → true ≡ is_in line r
-  unfolding is_in
-  found h e = rw (← count, any_holds (is_at line r) all at h (eq-eqb _ _ e))
-
-  none : any_below at (is_at line r) ≡ false → at ≤ all → all ≤ at → false ≡ is_in line r
-  unfolding is_in
-  none h l m = rw (← count, any_ends (is_at line r) h l m)
-
-pub loop-at-init : goal.loop-at-init
+any_entry : (test : ℕ → Bool) (items : List ℕ) (n : ℕ) → n ≤ length items → list_any test (take n items) ≡ any_below n (λ i. test (get_or items i 0))
 unfolding any_below
-loop-at-init c = (refl, search rules)
-
-pub returns-then-line-at : goal.returns-then-line-at
-returns-then-line-at c =
-    let l = c.before.before.before in
-    found _ _ l.used-all.ensures.0 l.loop-at.at c.loop-at-test.true c.if-line-at.true
-
-pub loop-at-preserved : goal.loop-at-preserved
-loop-at-preserved c =
-    let l = c.before.before.before in
-    let args = l.args in
-    (any_next (is_at args.line args.routine) l.loop-at.at l.loop-at.invariant.0 (ne_eqb _ _ c.if-line-at.false), search rules)
+any_entry test items zero h = refl
+any_entry test items (suc n) h = rw (← (add-one n), list_any_more test items n 0 (omega arith), any_entry test items n (omega arith))
 
 pub returns : goal.returns
+unfolding is_in
 returns c =
-    let l = c.before in
-    none _ _ l.used-all.ensures.0 l.loop-at.at l.loop-at.invariant.0 l.loop-at.invariant.1 c.loop-at-test.false
+    let items = c.args.line.items in
+    let found : c.contains.result ≡ list_any (λ x. eqb x c.args.routine) (take c.used.result items) = c.contains.ensures.value in
+    let inside : c.used.result ≤ length items = search rules in
+    found ∙ any_entry (λ x. eqb x c.args.routine) items c.used.result inside ∙ rw c.used.ensures.0

@@ -1,15 +1,19 @@
--- `listing::put_marks` meets its contract. The loop's invariant: the lines of the marks that are left, put into the buffer as it is, give
--- what the lines of all marks give in the buffer as lent. The measure is how many numbers are left.
-use Prim.Native.Nat.{◌-◌, ◌≤◌}
-use mathlib.Core.Path.{◌≡◌}
-use lib.ListN.{length, drop}
-use Rattle.texts.specs.Texts.{filled, with_text}
-use Rattle.listing.specs.Listing.{mark_lines}
+-- `listing::put_marks` meets its contract. The loop's invariant: a text with the lines of the pairs that are left behind what is there
+-- by now has the lines of all pairs behind what was there.
+use mathlib.Core.List.{List, [], ◌∷◌, ◌++◌}
+use lib.IntN.{ℤ, pos}
+use lib.ListN.{get_or, drop}
+use Prim.Native.Nat.{ℕ}
+use Rattle.texts.specs.declared.Text.{Text}
+use Rattle.texts.specs.Held.{Puts}
+use Rattle.listing.specs.Listing.{mark_line}
 use Rattle.listing.proofs.put_marks.Given as goal
 
-abbrev pub invariant-loop-at : goal.invariant-loop-at
-invariant-loop-at l = (with_text (filled l.out l.end) (mark_lines (drop l.at l.marks)) ≡ with_text (filled l.initial.out l.used) (mark_lines l.marks))
-    × (l.at ≤ length l.marks) × (length l.out ≡ length l.initial.out)
+-- the lines of marks that are pairs of numbers
+abbrev pub pair_lines : List (List ℤ) → List ℕ
+pair_lines [] = []
+pair_lines (pair ∷ pairs) = mark_line (get_or pair 0 (pos 0)) (get_or pair 1 (pos 0)) ++ pair_lines pairs
 
-abbrev pub decreases-loop-at : goal.decreases-loop-at
-decreases-loop-at l = length l.marks - l.at
+abbrev pub invariant-loop-routine : goal.invariant-loop-routine
+invariant-loop-routine l =
+    (after : Text) → Puts l.text (pair_lines (drop l.routine-index l.pairs)) after → Puts l.initial.text (pair_lines l.pairs) after

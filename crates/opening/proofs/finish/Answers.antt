@@ -1,65 +1,47 @@
--- `opening::finish` meets its contract. The invariant: the first `at` routines are the tables' own, the others the lent ones. The tables
--- have those beyond the first R as they were lent, so at the end all are the tables' own.
-use Prim.Native.Nat.{◌<◌}
-use mathlib.Core.Path.{◌≡◌, refl, sym, ◌∙◌}
+-- `opening::finish` meets its contract. The tables have the routines beyond the first R as they were lent, so at the end all are the
+-- tables' own.
+use Prim.Native.Nat.{◌+◌, ◌-◌, ◌<◌}
+use mathlib.Core.Path.{◌≡◌, sym, ◌∙◌}
+use mathlib.Core.List.{◌++◌}
 use native.Mathlib.Omega.{arith}
+use native.Mathlib.Decide.{dec_lt}
 use borrow.Author.Rules.{rules}
-use lib.ListN.{length}
+use lib.ListN.{length, drop, length-append, length-take, length-drop}
+use lib.Seq.{ext_get_or, get_or-drop}
+use Rattle.std.proofs.lemmas.List.{get_or_append_left, get_or-append_right}
 use Rattle.layout.specs.Layout.{most_routines}
 use Rattle.game.specs.Game.{blank}
 use Rattle.fitting.proofs.Sizes.{length_mapped}
 use Rattle.numbers.specs.Counting.{list_below}
 use Rattle.tables.specs.Tables.{routine_in}
 use Rattle.numbers.proofs.Lists.{below_length, below_read}
-use Rattle.opening.proofs.Copying.{copy_on, copy_all}
 use Rattle.opening.proofs.finish.Goals as goal
-
-pub loop-at-init : goal.loop-at-init
-loop-at-init c = (refl, omega arith)
-
-pub routine_at-requires : goal.routine_at-requires
-routine_at-requires c =
-    let p = c.requires in
-    (p.stages c.loop-at.at c.loop-at-test.true, p.places c.loop-at.at c.loop-at-test.true)
-
-pub bounds-routines-at : goal.bounds-routines-at
-bounds-routines-at c = omega (arith, c.loop-at-test.true, c.requires.few)
-
-pub loop-at-smaller : goal.loop-at-smaller
-loop-at-smaller c = omega (arith, c.loop-at-test.true)
-
-pub loop-at-preserved : goal.loop-at-preserved
-loop-at-preserved c =
-    let l = c.loop-at in
-    let a = c.args in
-    let more = c.loop-at-test.true in
-    let near : l.at < most_routines = omega (arith, more, c.requires.few) in
-    let long : length a.lent ≡ most_routines = search (rules, length_mapped) in
-    let routine = routine_in a.flags.now a.fields.now in
-    let is = c.routine_at.ensures ∙ sym (below_read most_routines routine l.at blank near) in
-    let size = below_length most_routines routine in
-    let on = copy_on (list_below most_routines routine) a.lent l.at blank in (
-      rw (l.invariant.0, is) (on (omega (arith, near, size)) (omega (arith, near, long))),
-      omega (arith, more),
-    )
-
-pub starting_line-requires : goal.starting_line-requires
-starting_line-requires c =
-    let p = c.requires in
-    record { count_le_most_entries = (p.short, p.fields_long); by_index = p.entries; by_index_2 = p.entries_beyond }
 
 pub returns : goal.returns
 returns c =
     let l = c.loop-at in
     let a = c.args in
+    let R = a.counts.routines in
+    let items = l.routine-items in
+    let routine = routine_in a.tables.now.flags a.tables.now.fields in
     let long : length a.lent ≡ most_routines = search (rules, length_mapped) in
-    let routine = routine_in a.flags.now a.fields.now in
+    let part : length items ≡ R = omega (arith, l.auto.routine-items, length-take R a.lent, long, c.requires.few) in
     let size = below_length most_routines routine in
-    let end : l.at ≡ a.counts.routines = omega (arith, l.invariant.1, c.loop-at-test.false) in
-    let all =
-    copy_all (list_below most_routines routine) a.lent l.at blank (long ∙ sym size)
-    (λ i h k.
-    let near : i < most_routines = omega (arith, size, k) in
-    sym (c.requires.beyond i (omega (arith, h, end)) near) ∙ sym (below_read most_routines routine i blank near))
+    let wide : length (items ++ drop R a.lent) ≡ most_routines = simp (length-append, length-drop) (omega (arith, part, long, c.requires.few)) in
+    let all : items ++ drop R a.lent ≡ list_below most_routines routine =
+    ext_get_or blank _ _ (wide ∙ sym size)
+    (λ i h.
+    let near : i < most_routines = omega (arith, wide, h) in
+    elim (dec_lt i R) [
+      | yes k ↦
+          get_or_append_left items (drop R a.lent) blank i (omega (arith, part, k)) ∙
+          l.invariant i (omega (arith, part, k, c.loop-at-test.false)) ∙
+          sym (below_read most_routines routine i blank near)
+      | no k ↦
+          let back : R + (i - R) ≡ i = omega (arith, k) in
+          get_or-append_right items (drop R a.lent) R i blank part (omega (arith, k)) ∙
+          get_or-drop R a.lent (i - R) blank ∙
+          (rw back (sym (c.requires.beyond i (omega (arith, k)) near) ∙ sym (below_read most_routines routine i blank near)))
+    ])
     in
-    rw (l.invariant.0, all, c.starting_line.ensures)
+    rw (all, c.starting_line.ensures)

@@ -1,16 +1,10 @@
--- `opening::finish` meets its contract. The invariant: the first `at` routines are the tables' own, the others the lent ones. The tables
--- have those beyond the first R as they were lent, so at the end all are the tables' own.
-use Prim.Native.Nat.{◌-◌, ◌≤◌}
+-- `opening::finish` meets its contract. The invariant: the routines below `at` are the tables' own.
+use Prim.Native.Nat.{ℕ, ◌<◌}
 use mathlib.Core.Path.{◌≡◌}
-use Rattle.layout.specs.Layout.{most_routines}
-use Rattle.numbers.specs.Counting.{list_below}
+use lib.ListN.{get_or}
+use Rattle.game.specs.Game.{blank}
 use Rattle.tables.specs.Tables.{routine_in}
-use Rattle.opening.proofs.Copying.{copied}
 use Rattle.opening.proofs.finish.Given as goal
 
 abbrev pub invariant-loop-at : goal.invariant-loop-at
-invariant-loop-at l =
-    (l.routines ≡ copied (list_below most_routines (routine_in l.flags l.fields)) l.initial.routines l.at) × (l.at ≤ l.all)
-
-abbrev pub decreases-loop-at : goal.decreases-loop-at
-decreases-loop-at l = l.all - l.at
+invariant-loop-at l = (i : ℕ) → i < l.at → get_or l.routine-items i blank ≡ routine_in l.tables.flags l.tables.fields i

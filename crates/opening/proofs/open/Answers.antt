@@ -1,4 +1,4 @@
--- `opening::open` meets its contract: those listed and the fields that `settle` gets are those that `join` leaves.
+-- `opening::open` meets its contract: those listed and the tables that `settle` gets are those that `join` and `broadcast` leave.
 use Rattle.opening.proofs.open.Goals as goal
 
 pub returns : goal.returns
@@ -6,7 +6,6 @@ returns c =
     let j = c.join-joined.ensures in
     let s = c.settle.ensures in
     record {
-      flags_after = c.broadcast.ensures;
-      value = rw (j.value, j.fields_after) at s.value;
-      fields_after = rw (j.value, j.fields_after) at s.fields_after;
+      value = rw (s.after, c.broadcast.ensures, j.after) (rw (c.broadcast.ensures, j.value, j.after) at s.value);
+      after = rw (s.after, c.broadcast.ensures, j.value, j.after);
     }

@@ -1,13 +1,14 @@
--- `opening::starting_line` meets its contract. The invariant: the first `at` entries are the row's and the others 0, as they are in the row
--- from `count` on.
-use Prim.Native.Nat.{◌-◌, ◌≤◌}
+-- `opening::starting_line` meets its contract. The invariant: the entries below `at` are the row's, and those from there on are 0.
+use Prim.Native.Nat.{ℕ, ◌<◌, ◌≤◌}
 use mathlib.Core.Path.{◌≡◌}
+use lib.ListN.{get_or, length}
+use Rattle.lines.specs.Lines.{most_entries}
 use Rattle.tables.specs.Tables.{starting_row, last_row}
-use Rattle.opening.proofs.Copying.{copied}
 use Rattle.opening.proofs.starting_line.Given as goal
 
 abbrev pub invariant-loop-at : goal.invariant-loop-at
-invariant-loop-at l = (l.items ≡ copied (last_row starting_row l.fields) l.initial.items l.at) × (l.at ≤ l.count)
-
-abbrev pub decreases-loop-at : goal.decreases-loop-at
-decreases-loop-at l = l.count - l.at
+invariant-loop-at l = record {
+  long : length l.items ≡ most_entries;
+  row : (i : ℕ) → i < l.at → get_or l.items i 0 ≡ get_or (last_row starting_row l.tables.fields) i 0;
+  beyond : (i : ℕ) → l.at ≤ i → i < most_entries → get_or l.items i 0 ≡ 0;
+}

@@ -3,7 +3,14 @@ use Rattle.opening.proofs.take.Goals as goal
 
 pub returns : goal.returns
 returns c =
-    record {
-      flags_after = rw (c.put_flag-3.ensures, c.put_flag-2.ensures, c.is_suspended.ensures, c.put_flag.ensures);
-      fields_after = rw (c.put_field-3.ensures, c.put_field-2.ensures, c.put_field.ensures);
-    }
+    rw (
+      c.put_field-3.ensures,
+      c.put_field-2.ensures,
+      c.put_field.ensures,
+      c.put_flag-3.ensures,
+      c.put_flag-2.ensures,
+      c.is_suspended.ensures,
+      c.put_flag.ensures,
+      c.from-2.ensures,
+      c.from.ensures,
+    )

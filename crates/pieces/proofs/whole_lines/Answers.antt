@@ -1,39 +1,40 @@
--- `pieces::whole_lines` meets its contract. The loop's invariant: the whole lines within the bytes left are those of the text.
--- The measure is the bytes left.
-use Prim.Native.Nat.{ℕ, suc, ◌-◌, ◌≤◌, ◌<◌}
+-- `pieces::whole_lines` meets its contract: behind the last end of a line is what stands before the first from the back.
+use Prim.Native.Nat.{ℕ, zero, suc, ◌-◌, ◌≤◌}
+use mathlib.Core.Bool.{Bool}
 use mathlib.Core.List.{List}
-use mathlib.Core.Path.{◌≡◌, refl, sym, subst, ◌∙◌}
+use mathlib.Core.Path.{◌≡◌, sym, ap, ◌∙◌}
 use native.Mathlib.Omega.{arith}
-use lib.ListN.{get_or}
-use borrow.Author.Tests.{eq-eqb, ne_eqb}
-use Rattle.pieces.specs.Pieces.{line_end, whole_within}
+use lib.ListN.{length, get_or, take}
+use lib.Seq.{take_all, take-suc}
+use Rattle.std.specs.Prelude.{◌==◌, reverse}
+use Rattle.std.specs.List.{position, position_or_len}
+use Rattle.std.specs.Option.{unwrap_or}
+use Rattle.std.proofs.lemmas.List.{reverse-append, length-reverse}
+use Rattle.numbers.proofs.Tests.{by_flag}
+use Rattle.words.proofs.Places.{or_end}
+use Rattle.pieces.specs.Pieces.{line_end, whole_within, whole_lines}
 use Rattle.pieces.proofs.whole_lines.Goals as goal
 
-one_less : (n : ℕ) → 0 < n → suc (n - 1) ≡ n
-one_less n h = omega arith
+abbrev ends_line : ℕ → Bool
+ends_line b = b == line_end
 
-module _ (text : List ℕ) (n : ℕ) where
-  ends : 0 < n → get_or text (n - 1) 0 ≡ line_end → whole_within text n ≡ n
-  unfolding whole_within
-  ends h e = subst (λ (k : ℕ). whole_within text k ≡ k) (one_less n h) (rw (eq-eqb _ _ e))
+-- of the first n bytes
+from_back : (s : List ℕ) (n : ℕ) → n ≤ length s → whole_within s n ≡ n - position_or_len ends_line (reverse (take n s))
+unfolding whole_within
+from_back s zero h = omega arith
+from_back s (suc n) h =
+    by_flag (ends_line (get_or s n 0))
+    (λ t. rw (take-suc s n 0 h, reverse-append (take n s), t) (omega arith))
+    (λ f. rw (take-suc s n 0 h, reverse-append (take n s), f) (omega (arith, from_back s n (omega arith))))
 
-  goes : 0 < n → (get_or text (n - 1) 0 ≡ line_end → ⊥) → whole_within text n ≡ whole_within text (n - 1)
-  unfolding whole_within
-  goes h e = subst (λ (k : ℕ). whole_within text k ≡ whole_within text (n - 1)) (one_less n h) (rw (ne_eqb _ _ e))
-
-  none : n ≤ 0 → whole_within text n ≡ n
-  unfolding whole_within
-  none h = let e : 0 ≡ n = omega arith in subst (λ (k : ℕ). whole_within text k ≡ k) e refl
-
-pub returns-then-text-at-eq10 : goal.returns-then-text-at-eq10
-returns-then-text-at-eq10 c =
-    let l = c.loop-at in
-    (sym (ends _ _ c.loop-at-test.true c.if-text-at-eq10.true) ∙ l.invariant.0, omega arith)
-
-pub loop-at-preserved : goal.loop-at-preserved
-loop-at-preserved c =
-    let l = c.loop-at in
-    (sym (goes _ _ c.loop-at-test.true c.if-text-at-eq10.false) ∙ l.invariant.0, omega arith)
+whole : (s : List ℕ) (k : ℕ) → k ≡ unwrap_or (position ends_line (reverse s)) (length s) → length s - k ≡ whole_lines s
+whole s k e =
+    let all : take (length s) s ≡ s = take_all (length s) s (omega arith) in
+    let behind = or_end ends_line (reverse s) {n = length s} (sym (length-reverse s)) in
+    let back = rw all at (from_back s (length s) (omega arith)) in
+    ap (λ (n : ℕ). length s - n) (e ∙ behind) ∙ sym back
 
 pub returns : goal.returns
-returns c = (sym (none _ _ c.loop-at-test.false) ∙ c.loop-at.invariant.0, omega arith)
+returns c =
+    let s = c.args.text.now in
+    (whole s c.unwrap_or.result (rw c.behind_lines.ensures at c.unwrap_or.ensures), omega arith)

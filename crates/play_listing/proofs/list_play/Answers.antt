@@ -3,6 +3,7 @@ use Prim.Native.Nat.{ℕ}
 use mathlib.Core.Path.{◌≡◌}
 use mathlib.Core.List.{List}
 use borrow.Author.Tests.{eq-eqb, ne_eqb}
+use borrow.Author.Rules.{rules}
 use Rattle.game.specs.Game.{blank_game}
 use Rattle.game.specs.declared.Outcome.{Outcome}
 use Rattle.setup.specs.SetUp.{set_up}
@@ -22,9 +23,13 @@ module _ (book : List ℕ) (o : Outcome) (e : o ≡ set_up book blank_game) wher
 pub returns-then-verdict-ne0 : goal.returns-then-verdict-ne0
 returns-then-verdict-ne0 c =
     let e = rw c.blank_game.ensures at c.set_up-outcome.ensures.0 in
-    rw (refused _ _ e c.if-verdict-ne0.true) c.put_refusal.ensures
+    let told = refused _ _ e c.if-verdict-ne0.true in
+    let put = rw (← told) at c.put_refusal.ensures.put in
+    search rules
 
 pub returns : goal.returns
 returns c =
     let e = rw c.blank_game.ensures at c.set_up-outcome.ensures.0 in
-    rw (played _ _ e c.if-verdict-ne0.false) c.list_rounds.ensures
+    let told = played _ _ e c.if-verdict-ne0.false in
+    let put = rw (← told) at c.list_rounds.ensures.put in
+    search rules

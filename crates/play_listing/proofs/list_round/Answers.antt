@@ -28,4 +28,4 @@ slice_bounds-put_round-end c = let f = few _ _ _ c.play-played.ensures.marks_aft
 pub returns : goal.returns
 returns c =
     let p = c.play-played.ensures.marks_after in
-    rw (← p) (refl, c.put_round-used.ensures)
+    rw (← p) (refl, c.put_round.ensures)

@@ -1,10 +1,9 @@
 -- A try again with nothing come since, and a pass that begins with eoi set.
-use Rattle.std.specs.Prelude.{ℕ, ◌≡◌, true, false, List, [], ◌∷◌, ◌++◌}
+use Rattle.std.specs.Prelude.{ℕ, ◌≡◌, true, false, List, [], ◌∷◌, ◌++◌, Some}
 use Rattle.numbers.specs.Counting.{how_many}
 use Rattle.game.specs.declared.Game.{Game}
 use Rattle.game.specs.Game.{routine_at}
 use Rattle.round.specs.declared.Ending.TheVariants.{Continued}
-use Rattle.round.specs.declared.Turn.TheVariants.{Took}
 use Rattle.round.specs.State.{State, Thing, Event, missing, is_there}
 use Rattle.round.specs.Actions.{position_of, at_start}
 use Rattle.round.specs.Rounds.{all_done, for_next_pass, listed_in, turn, pass}
@@ -24,7 +23,7 @@ module _ (book : List ℕ) where
     pub try_again :
         (u : State) → let x = routine_at (turn book r s).state.game r in let y = routine_at u.game r in
         y.stage ≡ x.stage → y.suspended ≡ x.suspended → position_of y ≡ position_of x → is_there u thing ≡ false → u.eoi ≡ false →
-        turn book r u ≡ record { state = u; trace = missing r place thing ∷ []; turns = Took Continued ∷ [] }
+        turn book r u ≡ record { state = u; trace = missing r place thing ∷ []; turns = Some Continued ∷ [] }
 
   -- a pass of the round from game g begins in state s: the first one, or one behind a pass in which not all was done
   pub data Begins (g : Game) : State → Type 0 where

@@ -1,12 +1,11 @@
 -- Demand 3, the third of the three demands on rounds (docs/ARCHITECTURE.md): its four sentences stand over the fields of Demand3, and its
 -- words are read as document 01 says: "What do demand 3's words mean? They are read off book and game as lent, through the passes of rules
 -- 35 and 36 as read here."
-use Rattle.std.specs.Prelude.{ℕ, ◌+◌, ◌≤◌, ◌≡◌, Bool, true, false, ◌||◌, List, ◌∷◌, ◌++◌, ◌⊎◌, eqb}
+use Rattle.std.specs.Prelude.{ℕ, ◌+◌, ◌≤◌, ◌≡◌, Bool, true, false, ◌||◌, List, ◌∷◌, ◌++◌, ◌⊎◌, eqb, Option, Some}
 use Rattle.numbers.specs.Counting.{count_below, sum_over, how_many, Somewhere, Among}
+use Rattle.kinds.specs.declared.Kind.{Kind}
 use Rattle.kinds.specs.Ops.{op_signal, op_signal_number}
 use Rattle.kinds.specs.declared.Kind.TheVariants as kind
-use Rattle.kinds.specs.declared.Step.{Step}
-use Rattle.kinds.specs.declared.Step.TheVariants as step
 use Rattle.kinds.specs.Steps.{op_at}
 use Rattle.directory.specs.Directory.{step_count, routine_steps}
 use Rattle.game.specs.declared.Game.{Game}
@@ -48,12 +47,12 @@ ends_routine (completed r p) = false
 
 -- what a step of op 8 to 12 asks for: "its signal, the joined routine's end or the signal's k-th number", by the table's
 -- "8 wait, 9 wait n", "10 join, 11 join n" and "12 read"
-pub data AsksFor : Step → Thing → Type 0 where
-  wait : {e : ℕ} → AsksFor (step.Kind (kind.Wait e)) (signal e)
-  wait_for : {e n : ℕ} → AsksFor (step.Kind (kind.WaitFor e n)) (signal e)
-  join : {r : ℕ} → AsksFor (step.Kind (kind.Join r)) (end r)
-  join_for : {r n : ℕ} → AsksFor (step.Kind (kind.JoinFor r n)) (end r)
-  read : {e c k : ℕ} → AsksFor (step.Kind (kind.Read e c k)) (number e k)
+pub data AsksFor : Option Kind → Thing → Type 0 where
+  wait : {e : ℕ} → AsksFor (Some (kind.Wait e)) (signal e)
+  wait_for : {e n : ℕ} → AsksFor (Some (kind.WaitFor e n)) (signal e)
+  join : {r : ℕ} → AsksFor (Some (kind.Join r)) (end r)
+  join_for : {r n : ℕ} → AsksFor (Some (kind.JoinFor r n)) (end r)
+  read : {e c k : ℕ} → AsksFor (Some (kind.Read e c k)) (number e k)
 
 -- "It comes later if, in the same round after that try, a step gives the signal, the joined routine ends, or the signal's k-th number is
 -- given."

@@ -1,8 +1,7 @@
 -- Why a round is turned down, or not: the clauses of document 01 that decide it.
-use Rattle.std.specs.Prelude.{ℕ, suc, ◌<◌, ◌≤◌, ◌≡◌, Bool, false, not, List, eqb, length, ℤ}
+use Rattle.std.specs.Prelude.{ℕ, suc, ◌<◌, ◌≤◌, ◌≡◌, Bool, false, not, List, eqb, length, ℤ, Some}
 use Rattle.numbers.specs.Counting.{how_many}
 use Rattle.kinds.specs.declared.Kind.TheVariants.{Mark}
-use Rattle.kinds.specs.declared.Step.TheVariants as step
 use Rattle.kinds.specs.Steps.{step_at}
 use Rattle.verdicts.specs.declared.Verdict.{Verdict}
 use Rattle.verdicts.specs.Verdicts.{accepted, refused}
@@ -18,7 +17,7 @@ use Rattle.round.specs.Answers.{space_for, most_numbers}
 
 -- 10. "the book's mark steps": step i of a book is one
 abbrev pub MarkAt : List ℕ → ℕ → Type 0
-MarkAt book i = (n : ℤ) × (step_at (counts_of book) (steps_part book) i ≡ step.Kind (Mark n))
+MarkAt book i = (n : ℤ) × (step_at (counts_of book) (steps_part book) i ≡ Some (Mark n))
 
 -- 11. "More than 1,024 numbers are given in one round.": how many were given, among what happened; a signal may be given with none
 abbrev pub gives_number : Event → Bool

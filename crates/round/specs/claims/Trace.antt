@@ -4,11 +4,10 @@
 -- end for each routine that ended, and as many misses as turns that ended because their thing was missing; which signal or mark a step
 -- gives is not said here. A try is of what its step asks for, and finds it exactly if that was there from the
 -- start or came before; a step of op 8, 10 or 12 is completed only by finding what it asks for.
-use Rattle.std.specs.Prelude.{ℕ, ◌+◌, ◌-◌, ◌<◌, ◌≡◌, Bool, true, false, List, [], ◌∷◌, ◌++◌, ◌⊎◌, ◌↔◌, eqb, length}
+use Rattle.std.specs.Prelude.{ℕ, ◌+◌, ◌-◌, ◌<◌, ◌≡◌, Bool, true, false, List, [], ◌∷◌, ◌++◌, ◌⊎◌, ◌↔◌, eqb, length, Some, Option, None}
 use Rattle.numbers.specs.Counting.{how_many, Somewhere, Among}
 use Rattle.kinds.specs.declared.Kind.{Kind}
 use Rattle.kinds.specs.declared.Kind.TheVariants as kind
-use Rattle.kinds.specs.declared.Step.TheVariants as step
 use Rattle.forms.specs.Timed.{Timed}
 use Rattle.layout.specs.Layout.{routines_of}
 use Rattle.directory.specs.Directory.{step_count, routine_step}
@@ -16,10 +15,9 @@ use Rattle.game.specs.declared.Routine.{Routine}
 use Rattle.game.specs.declared.Game.{Game}
 use Rattle.game.specs.Game.{routine_at}
 use Rattle.game.specs.Game as stage
+use Rattle.round.specs.declared.Ending.{Ending}
 use Rattle.round.specs.declared.Ending.TheVariants.{Ended, Rested, Missed, Continued}
 use Rattle.round.specs.declared.Position.{Position}
-use Rattle.round.specs.declared.Turn.{Turn}
-use Rattle.round.specs.declared.Turn.TheVariants.{PassedOver, Took}
 use Rattle.round.specs.State.{Thing, signal, end, number, Event, gave, ended, missing, past, marked, completed, is_there}
 use Rattle.round.specs.Actions.{kept, position_of, at_start}
 use Rattle.round.specs.Ticks.{fresh, begun_at, count_at}
@@ -40,12 +38,12 @@ is_miss (completed r p) = false
 
 -- a turn ended because its thing was missing: to rest, or to be continued; that no turn is continued because its steps ran out is
 -- Enough.antt's claim
-abbrev pub found_missing : Turn → Bool
-found_missing PassedOver = false
-found_missing (Took Ended) = false
-found_missing (Took Rested) = false
-found_missing (Took Missed) = true
-found_missing (Took Continued) = true
+abbrev pub found_missing : Option Ending → Bool
+found_missing None = false
+found_missing (Some Ended) = false
+found_missing (Some Rested) = false
+found_missing (Some Missed) = true
+found_missing (Some Continued) = true
 
 -- what happened is of routine r; of a signal that is given the trace does not say whose it is
 abbrev pub is_of : ℕ → Event → Bool
@@ -64,7 +62,7 @@ RestsAt y z = (y.stage ≡ stage.rested) × (position_of y ≡ z)
 module _ (book : List ℕ) (r : ℕ) (x : Position) (events : List Event) where
   -- the step there is of this kind
   abbrev pub StandsOn : Kind → Type 0
-  StandsOn k = routine_step book r x.place ≡ step.Kind k
+  StandsOn k = routine_step book r x.place ≡ Some k
 
   -- thing t was missing there
   abbrev pub WasMissing : Thing → Type 0

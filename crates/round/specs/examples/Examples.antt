@@ -1,6 +1,6 @@
 -- Rounds by evaluation: the order of the refusals and what they hand back, what happens in the rounds of T3's book, the buffer beyond
 -- the marks, the place behind a rest that ends a first block, and steps that would not end.
-use Rattle.std.specs.Prelude.{ℕ, ◌≡◌, refl, List, [], ◌∷◌, map, ℤ, pos, length}
+use Rattle.std.specs.Prelude.{ℕ, ◌≡◌, refl, List, [], ◌∷◌, map, ℤ, pos, length, Option, Some, None}
 use Rattle.kinds.specs.Steps.{row_of, decoded, step_at}
 use Rattle.blocks.specs.Blocks.{view_at, block_by, step_of, routine_of}
 use Rattle.partners.specs.Partners.{partner_of}
@@ -18,9 +18,8 @@ use Rattle.fitting.specs.Arrays.{entry_fits, line_fits, counters_fit, signals_fi
 use Rattle.fitting.specs.Routines.{routine_fits, slot_fits}
 use Rattle.fitting.specs.Fitting.{is_sized, fits_book}
 use Rattle.setup.specs.SetUp.{new_game}
+use Rattle.round.specs.declared.Ending.{Ending}
 use Rattle.round.specs.declared.Ending.TheVariants.{Ended, Continued}
-use Rattle.round.specs.declared.Turn.{Turn}
-use Rattle.round.specs.declared.Turn.TheVariants.{PassedOver, Took}
 use Rattle.round.specs.State.{signal, Event, gave, ended, missing, past, marked, completed, numbers_with, is_end_there, is_there}
 use Rattle.round.specs.Actions.{kept, each, at_start}
 use Rattle.round.specs.Jumps.{past_partner, opening_before, from_end}
@@ -95,8 +94,8 @@ events =
     ∷ completed 0 1 ∷ past 0 1 (signal 0) ∷ completed 0 2 ∷ marked 0 (pos 7) ∷ ended 0
     ∷ []
 
-abbrev pub turns : List Turn
-turns = Took Continued ∷ Took Ended ∷ Took Ended ∷ PassedOver ∷ []
+abbrev pub turns : List (Option Ending)
+turns = Some Continued ∷ Some Ended ∷ Some Ended ∷ None ∷ []
 
 -- and in an accepted round the mark (0, 7) stands at the buffer's start, and what is beyond it stays; a rest at the end of a first block
 -- leaves the place on the else, and one inside it in the block that was taken; and the steps of the while that does not pause run out, none

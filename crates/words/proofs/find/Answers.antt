@@ -1,41 +1,40 @@
--- `words::find` meets its contract. The loop's invariant: the search from `at` on finds what the search from `from` on does, and `at` is
--- between `from` and the text's length. The measure is what is left of the text.
-use Prim.Native.Nat.{ℕ, ◌+◌, ◌≤◌, ◌<◌}
-use mathlib.Core.Path.{◌≡◌, sym, ◌∙◌}
+-- `words::find` meets its contract: the place in the part behind `from`, or the length of that part, is the definition's.
+use Prim.Native.Nat.{ℕ, ◌+◌, ◌-◌, ◌≤◌}
 use mathlib.Core.List.{List}
-use native.Mathlib.Nat.{sub-eq-zero_of_le}
-use lib.ListN.{length, get_or}
-use borrow.Author.Rules.{rules}
-use borrow.Author.Tests.{eq-eqb, ne_eqb}
-use Rattle.numbers.proofs.Left.{more_left}
-use Rattle.words.specs.Words.{find_from, found_at}
+use mathlib.Core.Path.{◌≡◌, refl, ap, ◌∙◌}
+use native.Mathlib.Omega.{arith}
+use lib.ListN.{length, drop, length-drop}
+use Rattle.std.specs.Prelude.{◌==◌}
+use Rattle.std.specs.List.{position, position_or_len}
+use Rattle.std.specs.Option.{unwrap_or}
+use Rattle.numbers.proofs.Parts.{rest_from}
+use Rattle.words.proofs.Places.{within, or_end}
 use Rattle.words.proofs.find.Goals as goal
 
--- one turn of the search: it stops where the byte is, goes on to the next place where it is not, and ends behind the text
-module _ (text : List ℕ) (c at : ℕ) where
-  module _ (within : at < length text) where
-    stops : get_or text at 0 ≡ c → found_at text at c ≡ at
-    unfolding find_from
-    stops e = rw (more_left within, eq-eqb _ _ e)
+found :
+    (s : List ℕ) (from c k : ℕ) → from ≤ length s →
+    k ≡ unwrap_or (position (λ b. b == c) (drop from s)) (length s - from) →
+    k ≡ position_or_len (λ b. b == c) (drop from s)
+found s from c k h e = e ∙ or_end (λ b. b == c) (drop from s) (omega (arith, length-drop from s))
 
-    goes : (get_or text at 0 ≡ c → ⊥) → found_at text at c ≡ found_at text (at + 1) c
-    unfolding find_from
-    goes n = rw (more_left within, ne_eqb _ _ n)
+pub returns-then-text-from : goal.returns-then-text-from
+returns-then-text-from c =
+    let behind = drop c.args.from c.args.text.now in
+    let none = within (λ b. b == c.args.c) behind in
+    (omega (arith, none, length-drop c.args.from c.args.text.now), omega arith, omega arith)
 
-  ends : length text ≤ at → found_at text at c ≡ at
-  unfolding find_from
-  ends h = rw (sub-eq-zero_of_le h)
-
-pub returns-then-text-at : goal.returns-then-text-at
-returns-then-text-at c =
-    let l = c.before.before.before in
-    (sym (stops _ _ _ c.loop-at-test.true c.if-text-at.true) ∙ l.loop-at.invariant.0, l.loop-at.invariant.1, l.loop-at.invariant.2)
-
-pub loop-at-preserved : goal.loop-at-preserved
-loop-at-preserved c =
-    let l = c.before.before.before in
-    (sym (goes _ _ _ c.loop-at-test.true c.if-text-at.false) ∙ l.loop-at.invariant.0, search rules, search rules)
+pub overflow_add-result : goal.overflow_add-result
+overflow_add-result c =
+    let s = c.args.text.now in
+    let from = c.args.from in
+    let place = rw (rest_from s {a = from} refl) at c.place.ensures in
+    let k = found s from c.args.c c.unwrap_or.result c.if-text-from.false (rw place at c.unwrap_or.ensures) in
+    record { fits = omega (arith, k, within (λ b. b == c.args.c) (drop from s), length-drop from s) }
 
 pub returns : goal.returns
 returns c =
-    let l = c.before in (sym (ends _ _ _ c.loop-at-test.false) ∙ l.loop-at.invariant.0, l.loop-at.invariant.1, l.loop-at.invariant.2)
+    let s = c.args.text.now in
+    let from = c.args.from in
+    let place = rw (rest_from s {a = from} refl) at c.place.ensures in
+    let k = found s from c.args.c c.unwrap_or.result c.if-text-from.false (rw place at c.unwrap_or.ensures) in
+    (ap (λ n. from + n) k, omega arith, omega (arith, k, within (λ b. b == c.args.c) (drop from s), length-drop from s))

@@ -1,29 +1,19 @@
--- `arrays::are_within` meets its contract. The invariant: the slots passed so far and those from `at` on give the contract's answer.
--- What the machine reads back of a signed number is the number, since it fits 32 bits.
-use mathlib.Core.Path.{sym, ◌∙◌}
-use lib.ListN.{get_or}
-use lib.IntN.{pos}
+-- `arrays::are_within` meets its contract: the fold goes over the values.
+use mathlib.Core.Path.{◌∙◌}
+use mathlib.Core.Bool.{Bool, true, ◌&&◌}
 use borrow.Author.Rules.{rules}
-use mir.Syntax.{w32}
-use mir.Val.{SFits}
-use mir.Facts.{to_z-of_z}
-use Rattle.fitting.proofs.Ranges.{turn_fits, turn_fails, turns_end}
+use lib.IntN.{ℤ}
+use Rattle.std.proofs.Common.{tests}
+use Rattle.std.proofs.lemmas.Iterator.{YieldsList-from_slice}
+use Rattle.std.proofs.lemmas.Iterator.Consumers.{fold_from_yields_List}
+use Rattle.numbers.specs.Numbers.{is_within}
+use Rattle.fitting.proofs.Ranges.{folded}
 use Rattle.fitting.proofs.arrays.are_within.Goals as goal
-use Rattle.fitting.proofs.arrays.are_within.Goals.{then-not-is_within, else-not-is_within}
-
-pub loop-at-preserved : goal.loop-at-preserved
-loop-at-preserved c =
-    let l = c.loop-at in
-    let value : SFits w32 (get_or c.args.values.now l.at (pos 0)) = search rules in
-    let tested = rw (to_z-of_z value) at c.is_within.ensures in
-    elim c.if-not-is_within.branch [
-      | then-not-is_within w ↦
-          turn_fails _ _ l.fit l.at l.invariant w.fit-is c.loop-at-test.true (sym tested ∙ w.if-not-is_within.true)
-      | else-not-is_within w ↦
-          turn_fits _ _ l.fit l.at l.invariant w.fit-is (sym tested ∙ w.if-not-is_within.false)
-    ]
 
 pub returns : goal.returns
 returns c =
-    rw (← (to_z-of_z c.ranges.low), ← (to_z-of_z c.ranges.high))
-    (turns_end _ _ _ c.loop-at.at c.loop-at.invariant c.loop-at-test.false)
+    let within : ℤ → Bool = λ v. is_within v c.args.low c.args.high in
+    let items = YieldsList-from_slice c.args.values.now cc in
+    let over =
+    fold_from_yields_List _ (λ b v. b && within v) true c.fold.result c.fold.ensures.ran items (λ a x b q k. search (rules, tests)) in
+    over ∙ folded within c.args.values.now true

@@ -1,18 +1,24 @@
--- `arrays::rest_fits` meets its contract. The invariant: the slots passed so far and those from `at` on give the contract's answer.
-use mathlib.Core.Path.{◌≡◌}
-use native.Mathlib.Omega.{arith}
-use borrow.Author.Tests.{eqb-true, eqb-false}
-use Rattle.lines.specs.Lines.{most_entries, item_at}
-use Rattle.fitting.proofs.Ranges.{turn, turns_end}
+-- `arrays::rest_fits` meets its contract: the fold goes over the items from the length on.
+use mathlib.Core.Path.{◌≡◌, ◌∙◌}
+use mathlib.Core.Bool.{Bool, true, ◌&&◌}
+use Prim.Native.Nat.{ℕ}
+use borrow.Author.Rules.{rules}
+use lib.Dec.{eqb}
+use lib.ListN.{length, drop}
+use Rattle.std.proofs.Common.{tests}
+use Rattle.std.proofs.lemmas.Iterator.{YieldsList-from_slice}
+use Rattle.std.proofs.lemmas.Iterator.Consumers.{fold_from_yields_List}
+use Rattle.lines.specs.Lines.{most_entries}
+use Rattle.fitting.proofs.Ranges.{folded, to_end}
 use Rattle.fitting.proofs.arrays.rest_fits.Goals as goal
 
--- by what the entry is, and not by which branch ran
-pub loop-at-preserved : goal.loop-at-preserved
-loop-at-preserved c =
-    let l = c.loop-at in
-    turn most_entries _ l.fit l.at l.invariant c.loop-at-test.true
-    (λ t. let e : item_at c.args.line l.at ≡ 0 = eqb-true _ _ t in grind arith)
-    (λ f. let e : item_at c.args.line l.at ≡ 0 → ⊥ = eqb-false _ _ f in grind arith)
-
 pub returns : goal.returns
-returns c = turns_end most_entries _ _ c.loop-at.at c.loop-at.invariant c.loop-at-test.false
+returns c =
+    let line = c.args.line.now in
+    let size : length line.items ≡ most_entries = search rules in
+    let none : ℕ → Bool = λ v. eqb v 0 in
+    let rest = drop line.len line.items in
+    let items = YieldsList-from_slice rest (c.iter.ensures.rest ∙ to_end line.items most_entries line.len size) in
+    let over =
+    fold_from_yields_List _ (λ b v. b && none v) true c.fold.result c.fold.ensures.ran items (λ a x b q k. search (rules, tests)) in
+    over ∙ folded none rest true

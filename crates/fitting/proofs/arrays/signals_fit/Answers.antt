@@ -1,20 +1,19 @@
--- `arrays::signals_fit` meets its contract. The invariant: the signals passed so far and those from `at` on give the contract's answer.
-use Rattle.numbers.specs.Counting.{all_from}
+-- `arrays::signals_fit` meets its contract: the fold goes over the flags that are beyond the signals of the book.
+use mathlib.Core.Path.{sym, ◌∙◌}
+use mathlib.Core.Bool.{true, not, ◌&&◌}
+use borrow.Author.Rules.{rules}
+use lib.ListN.{drop}
+use Rattle.std.proofs.Common.{tests}
+use Rattle.std.proofs.lemmas.Iterator.{YieldsList-from_slice}
+use Rattle.std.proofs.lemmas.Iterator.Consumers.{fold_from_yields_List}
 use Rattle.layout.specs.Layout.{most_signals}
-use Rattle.fitting.specs.Arrays.{signals_fit}
-use Rattle.fitting.proofs.Ranges.{turn_fits, turn_fails, turns_end}
+use Rattle.fitting.proofs.Ranges.{folded, to_end, signals_part}
 use Rattle.fitting.proofs.arrays.signals_fit.Goals as goal
-use Rattle.fitting.proofs.arrays.signals_fit.Goals.{then-flags-at, else-flags-at}
-
-pub loop-at-preserved : goal.loop-at-preserved
-loop-at-preserved c =
-    let l = c.loop-at in
-    elim c.if-flags-at.branch [
-      | then-flags-at w ↦
-          turn_fails most_signals _ l.fit l.at l.invariant w.fit-is c.loop-at-test.true (rw w.if-flags-at.true)
-      | else-flags-at w ↦ turn_fits most_signals _ l.fit l.at l.invariant w.fit-is (rw w.if-flags-at.false)
-    ]
 
 pub returns : goal.returns
-unfolding signals_fit all_from
-returns c = turns_end most_signals _ _ c.loop-at.at c.loop-at.invariant c.loop-at-test.false
+returns c =
+    let beyond = drop c.min.result c.args.flags.now in
+    let items = YieldsList-from_slice beyond (c.iter.ensures.rest ∙ to_end c.args.flags.now most_signals c.min.result c.told-flags) in
+    let over =
+    fold_from_yields_List _ (λ b v. b && not v) true c.fold.result c.fold.ensures.ran items (λ a x b q k. search (rules, tests)) in
+    over ∙ folded not beyond true ∙ sym (signals_part _ _ _ c.told-flags c.min.ensures)

@@ -1,36 +1,38 @@
--- `actions::join` meets its contract. The invariant: the entries from `at` on, put behind the list and into stage 1 as both are, give what
+-- `actions::join` meets its contract. The invariant: the entries that are left, put behind the list and into stage 1 as both are, give what
 -- all give at the start.
-use mathlib.Core.Path.{◌≡◌, refl}
-use native.Mathlib.Omega.{arith}
-use borrow.Author.Rules.{rules}
-use lib.ListN.{length}
-use Rattle.lines.specs.Lines.{most_entries, line_of}
-use Rattle.opening.proofs.Loops.{append_on, continue_on, append_over, continue_over}
+use Prim.Native.Nat.{ℕ}
+use mathlib.Core.Path.{refl, sym, ◌∙◌}
+use mathlib.Core.List.{List}
+use lib.ListN.{take}
+use Rattle.std.proofs.lemmas.List.{at_drop_more, at_drop_all}
+use Rattle.lines.specs.Lines.{line_of, appended}
+use Rattle.opening.specs.Actions.{continued}
 use Rattle.opening.proofs.actions.join.Goals as goal
 
-pub loop-at-init : goal.loop-at-init
-loop-at-init c = (refl, refl, search rules)
+pub loop-routine-init : goal.loop-routine-init
+loop-routine-init c = (refl, refl)
 
-pub loop-at-preserved : goal.loop-at-preserved
-loop-at-preserved c =
-    let l = c.loop-at in
-    let starting = c.args.starting in
-    let test = c.loop-at-test.true in
-    let more = rw c.used-all.ensures.0 at test in
-    let long : length starting.items ≡ most_entries = search rules in
-    let line = append_on starting l.at long more (line_of l.items l.len) in
-    let fields = continue_on starting l.at long more l.fields in (
-      rw (c.push_entry-len.ensures, ← line) l.invariant.0,
-      rw (c.put_field.ensures, ← fields) l.invariant.1,
-      omega (arith, test),
+pub loop-routine-preserved : goal.loop-routine-preserved
+unfolding appended continued
+loop-routine-preserved c =
+    let l = c.loop-routine in
+    let xs = take c.used.result c.args.starting.items in
+    let more = c.loop-routine-test.true in
+    let line = at_drop_more (appended (line_of l.items l.len)) xs l.routine-index 0 more in
+    let fields = at_drop_more (λ (rs : List ℕ). record l.tables { fields = continued rs l.tables.fields }) xs l.routine-index 0 more in (
+      rw c.push_entry-len.ensures (sym line ∙ l.invariant.0),
+      rw (c.put_field.ensures, c.from-r.ensures, c.from.ensures) (sym fields ∙ l.invariant.1),
     )
 
 pub returns : goal.returns
+unfolding appended continued
 returns c =
-    let l = c.loop-at in
-    let starting = c.args.starting in
-    let over = rw c.used-all.ensures.0 at c.loop-at-test.false in
+    let l = c.loop-routine in
+    let xs = take c.used.result c.args.starting.items in
+    let over = c.loop-routine-test.false in
+    let line = at_drop_all (appended (line_of l.items l.len)) xs l.routine-index over in
+    let fields = at_drop_all (λ (rs : List ℕ). record l.tables { fields = continued rs l.tables.fields }) xs l.routine-index over in
     record {
-      value = rw (append_over starting l.at over (line_of l.items l.len)) at l.invariant.0;
-      fields_after = rw (continue_over starting l.at over l.fields) at l.invariant.1;
+      value = rw (← c.used.ensures.0) (sym line ∙ l.invariant.0);
+      after = rw (← c.used.ensures.0) (sym fields ∙ l.invariant.1);
     }

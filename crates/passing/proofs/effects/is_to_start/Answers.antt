@@ -1,19 +1,37 @@
--- `effects::is_to_start` meets its contract: no entry that was looked at is the routine, until one is or none is left.
-use Prim.Native.Nat.{ℕ, ◌≤◌}
-use mathlib.Core.Path.{◌≡◌, refl, sym, ◌∙◌}
-use mathlib.Core.List.{List}
+-- `effects::is_to_start` meets its contract: with room for all that are to start, a test at each below their count is one at each entry.
+use Prim.Native.Nat.{ℕ, zero, suc, ◌+◌, ◌≤◌}
+use mathlib.Core.Path.{◌≡◌, refl, ap, ◌∙◌}
+use mathlib.Core.Bool.{Bool, or-false}
+use mathlib.Core.List.{List, [], ◌∷◌, ◌++◌}
+use native.Mathlib.Nat.{add-zero, zero-add}
 use native.Mathlib.Omega.{arith}
 use native.Mathlib.Decide.{dec_lt}
-use lib.Dec.{ltb}
-use borrow.Author.Tests.{lt-ltb, le-ltb, eq-eqb, ne_eqb}
-use Rattle.std.specs.Prelude.{if◌then◌else◌}
-use Rattle.numbers.specs.Counting.{any_below}
-use Rattle.numbers.proofs.Below.{any_holds, any_next, any_ends}
-use Rattle.lines.specs.Lines.{most_entries, is_in}
-use Rattle.passing.specs.Effects.{is_starting}
 use borrow.Author.Rules.{rules}
-use Rattle.passing.proofs.effects.is_to_start.Invariants.{is_at}
+use borrow.Author.Tests.{lt-ltb, le-ltb}
+use lib.Dec.{ltb, eqb}
+use lib.ListN.{get_or}
+use Rattle.std.specs.Prelude.{if◌then◌else◌}
+use Rattle.std.specs.List.{list_any, range_with_len}
+use Rattle.std.proofs.lemmas.List.Folds.{list_any-append}
+use Rattle.std.proofs.lemmas.Iterator.{YieldsList-from_range}
+use Rattle.std.proofs.lemmas.Iterator.Search.{any_from_yields_List}
+use Rattle.numbers.specs.Counting.{any_below}
+use Rattle.lines.specs.Lines.{most_entries, is_in}
+use Rattle.tables.specs.Tables.{last_row, starting_row}
+use Rattle.passing.specs.Effects.{is_starting}
 use Rattle.passing.proofs.effects.is_to_start.Goals as goal
+
+range_more : (a n : ℕ) → range_with_len a (suc n) ≡ range_with_len a n ++ ((a + n) ∷ [])
+range_more a zero = rw add-zero
+range_more a (suc n) =
+    let e : a + 1 + n ≡ a + suc n = omega arith in
+    ap (λ (l : List ℕ). a ∷ l) (rw e at (range_more (a + 1) n))
+
+any_of_range : (p : ℕ → Bool) (n : ℕ) → list_any p (range_with_len 0 n) ≡ any_below n p
+unfolding any_below
+any_of_range p zero = refl
+any_of_range p (suc n) =
+    ap (list_any p) (range_more 0 n) ∙ list_any-append p (range_with_len 0 n) _ ∙ rw (any_of_range p n, zero-add, or-false)
 
 -- with room for all that are to start, all of them count
 used_all : (n : ℕ) → n ≤ most_entries → (if ltb n most_entries then n else most_entries) ≡ n
@@ -23,29 +41,15 @@ used_all n h =
       | no l ↦ rw (le-ltb n most_entries (omega arith)) (omega arith)
     ]
 
-starting_by : (fields : List ℕ) (n r : ℕ) → n ≤ most_entries → is_starting fields n r ≡ any_below n (is_at fields r)
+starting_by :
+    (fields : List ℕ) (n r : ℕ) → n ≤ most_entries →
+    is_starting fields n r ≡ list_any (λ i. eqb (get_or (last_row starting_row fields) i 0) r) (range_with_len 0 n)
 unfolding is_starting is_in
-starting_by fields n r h = rw (used_all n h)
-
-pub loop-at-init : goal.loop-at-init
-unfolding any_below
-loop-at-init c = (refl, search rules)
-
-pub returns-then-starting_at-routine : goal.returns-then-starting_at-routine
-returns-then-starting_at-routine c =
-    let l = c.before.before.before in
-    let found = eq-eqb _ _ (sym c.starting_at.ensures.0 ∙ c.if-starting_at-routine.true) in
-    let holds = any_holds (is_at _ _) l.args.count l.loop-at.at c.loop-at-test.true found in
-    rw (starting_by _ _ _ l.requires, holds)
-
-pub loop-at-preserved : goal.loop-at-preserved
-loop-at-preserved c =
-    let l = c.before.before.before in
-    let a = l.args in
-    let other = ne_eqb _ _ (λ e. c.if-starting_at-routine.false (c.starting_at.ensures.0 ∙ e)) in
-    (any_next (is_at a.fields.now a.routine) l.loop-at.at l.loop-at.invariant.0 other, search rules)
+starting_by fields n r h = rw (used_all n h, any_of_range)
 
 pub returns : goal.returns
 returns c =
-    let l = c.before in
-    rw (starting_by _ _ _ l.requires) (sym (any_ends (is_at _ _) l.loop-at.invariant.0 l.loop-at.invariant.1 c.loop-at-test.false))
+    let t = c.args.tables.now in
+    rw (starting_by _ _ _ c.requires)
+    (any_from_yields_List (λ i. eqb (get_or (last_row starting_row t.fields) i 0) c.args.routine) _ _ _ c.any.ensures.ran
+    (YieldsList-from_range 0 t.tally.starting t.tally.starting refl (omega arith)) (λ x b q h. search rules))

@@ -1,23 +1,19 @@
--- `turns::end_with` meets its contract, ending by ending: only a routine's end gives its end signal and is a move.
-use mathlib.Core.Path.{refl, ap, ◌∙◌}
-use lib.ListN.{length}
+-- `turns::end_with` meets its contract: only a routine's end gives its end signal and is a move.
+use mathlib.Core.Path.{refl}
 use Rattle.tables.proofs.Rows.{put_length}
+use Rattle.passing.proofs.Held.{still_whole}
 use Rattle.passing.proofs.Left.{ended_held}
+use Rattle.passing.proofs.turns.end_with.Goals.{in-Ended, in_default}
 use Rattle.passing.proofs.turns.end_with.Goals as goal
 
-pub returns-in-Ended : goal.returns-in-Ended
-returns-in-Ended c =
-    let e = c.in-Ended.is in
-    record {
-      eoi_after = λ g counters fields given eoi. rw (e, c.put_flag.ensures) (ended_held g counters _ fields given _ eoi _);
-      flags_len_unchanged = (ap length c.put_flag.ensures ∙ put_length _ _ _ _, refl, refl, refl);
-    }
+pub returns-then-matches-clause-eoi_after : goal.returns-then-matches-clause-eoi_after
+returns-then-matches-clause-eoi_after c =
+    λ g given eoi.
+    elim c.match-matches.branch [
+      | in-Ended w ↦ rw (w.in-Ended.is, c.put_flag.ensures) (ended_held g _ _ _ given _ eoi _)
+      | in_default w ↦ cc
+    ]
 
-pub returns-in-Rested : goal.returns-in-Rested
-returns-in-Rested c = record { eoi_after = λ g counters fields given eoi. rw c.in-Rested.is; flags_len_unchanged = (refl, refl, refl, refl) }
-
-pub returns-in-Missed : goal.returns-in-Missed
-returns-in-Missed c = record { eoi_after = λ g counters fields given eoi. rw c.in-Missed.is; flags_len_unchanged = (refl, refl, refl, refl) }
-
-pub returns-in-Continued : goal.returns-in-Continued
-returns-in-Continued c = record { eoi_after = λ g counters fields given eoi. rw c.in-Continued.is; flags_len_unchanged = (refl, refl, refl, refl) }
+pub returns-then-matches-clause-whole : goal.returns-then-matches-clause-whole
+returns-then-matches-clause-whole c =
+    λ room whole. rw c.put_flag.ensures (still_whole whole (put_length _ _ _ _) refl whole.starting_fits whole.given_fits)

@@ -3,10 +3,6 @@
 use Rattle.passing.proofs.Runs.{Inside}
 use Rattle.passing.proofs.turns.run.Given as goal
 
-abbrev pub invariant-loop-ticks : goal.invariant-loop-ticks
-invariant-loop-ticks l =
-    Inside l.steps l.routine l.eoi l.initial.counters l.initial.flags l.initial.fields l.initial.given l.initial.marks l.initial.tally
-    l.counters l.flags l.fields l.given l.marks l.tally (record { place = l.place; begun = l.begun; left = l.left }) l.ticks
-
-abbrev pub decreases-loop-ticks : goal.decreases-loop-ticks
-decreases-loop-ticks l = l.ticks
+abbrev pub invariant-loop-taken : goal.invariant-loop-taken
+invariant-loop-taken l =
+    Inside l.steps l.routine l.eoi l.initial.tables l.initial.given l.initial.marks l.tables l.given l.marks l.x l._taken

@@ -1,14 +1,20 @@
 -- `turns::steps_of` meets its contract: the numbers of header and entry say where the routine's steps begin and end.
-use Prim.Native.Nat.{ℕ, ◌+◌, ◌*◌}
+use Prim.Native.Nat.{ℕ, ◌+◌, ◌-◌, ◌*◌}
 use mathlib.Core.Path.{◌≡◌}
 use mathlib.Core.List.{List}
 use native.Mathlib.Omega.{arith}
-use lib.ListN.{get_or}
+use lib.ListN.{get_or, take, drop}
 use Rattle.numbers.specs.Numbers.{half_of}
 use Rattle.kinds.specs.Steps.{step_bytes}
-use Rattle.directory.specs.Directory.{step_count, routine_from}
-use Rattle.directory.proofs.Directory.{steps_there}
+use Rattle.directory.specs.Directory.{step_count, routine_from, routine_part, routine_steps}
 use Rattle.passing.proofs.turns.steps_of.Goals as goal
+
+-- the part of the book from a routine's first byte on, as long as its steps, is its steps
+steps_there :
+    (s : List ℕ) (r : ℕ) {from size : ℕ} → from ≡ routine_from s r → size ≡ step_bytes * step_count s r →
+    take (from + size - from) (drop from s) ≡ routine_steps s r
+unfolding routine_part
+steps_there s r {from} {size} begins bytes = let same : from + size - from ≡ size = omega arith in rw (same, begins, bytes)
 
 -- where the entry says that the steps begin, and how many bytes they have
 starts :
@@ -23,14 +29,6 @@ sized book r is =
     let low : 12 + 4 * r + 2 ≡ 14 + 4 * r = omega arith in
     let high : 12 + 4 * r + 3 ≡ 14 + 4 * r + 1 = omega arith in
     rw (is, low, high)
-
-pub slice_bounds-result-end : goal.slice_bounds-result-end
-slice_bounds-result-end c =
-    let a = c.args in
-    let p = c.requires.routine_in_bounds_2 in
-    let from = starts a.book.now a.routine c.half.ensures.0 c.half-2.ensures.0 in
-    let size = sized a.book.now a.routine c.half-3.ensures.0 in
-    omega (arith, rw (← from, ← size) at p)
 
 pub returns : goal.returns
 returns c =

@@ -1,34 +1,45 @@
--- `storing::bits::set_byte` meets its contract. The invariant: the value is the number of the bits from `left` on.
-use Prim.Native.Nat.{◌+◌, ◌-◌}
-use mathlib.Core.Path.{◌≡◌, ◌∙◌}
+-- `storing::bits::set_byte` meets its contract: each turn puts a bit below those that are there, which are fewer than eight.
+use Prim.Native.Nat.{◌+◌, ◌*◌, ◌-◌}
+use mathlib.Core.Path.{◌≡◌, refl, ◌∙◌}
+use mathlib.Core.Bool.{false}
 use native.Mathlib.Omega.{arith}
 use borrow.Author.Rules.{rules}
-use Rattle.storing.proofs.Flags.{upper_none, upper_more, upper_all, upper_room}
+use lib.ListN.{get_or}
+use Rattle.std.specs.Prelude.{if◌then◌else◌}
+use Rattle.stored_games.specs.Forms.{byte_bits}
+use Rattle.storing.proofs.Flags.{bit_of_flag, bit_small, upper_none, upper_more, upper_all, upper_room}
 use Rattle.storing.proofs.bits.set_byte.Goals as goal
 
-pub loop-left-init : goal.loop-left-init
-loop-left-init c = (upper_none _ _, search rules)
+pub loop-bit-init : goal.loop-bit-init
+loop-bit-init c = upper_none _ _
 
-pub with_bit-value-requires : goal.with_bit-value-requires
-with_bit-value-requires c =
-    let l = c.loop-left in
-    let a = c.args in
-    rw l.invariant.0 (upper_room a.flags.now a.byte l.left c.loop-left-test.true)
+pub overflow_mul-value : goal.overflow_mul-value
+overflow_mul-value c =
+    let l = c.loop-bit in
+    omega (arith, l.invariant, upper_room c.args.flags.now c.args.byte l.bit c.loop-bit-test.true)
 
-pub loop-left-preserved : goal.loop-left-preserved
-loop-left-preserved c =
-    let l = c.loop-left in
-    let a = c.args in
-    let some = c.loop-left-test.true in
-    let next = l.left - 1 in
-    let one : l.left ≡ next + 1 = omega (arith, some) in
-    let value = rw one at l.invariant.0 in
-    let more = upper_more a.flags.now a.byte {left = next} (omega (arith, some, l.invariant.1)) in
-    (c.with_bit-value.ensures ∙ rw (c.is_broadcast.ensures, value) more, omega (arith, l.invariant.1))
+-- the bit that is put
+bit : (c : goal.After-from) → c.from.result ≡ (if get_or c.args.flags.now (c.args.byte * byte_bits + (c.loop-bit.bit - 1)) false then 1 else 0)
+bit c =
+    let set : c.unwrap_or-is_set.result ≡ get_or c.args.flags.now (c.args.byte * byte_bits + (c.loop-bit.bit - 1)) false = search rules in
+    c.from.ensures ∙ rw (bit_of_flag c.unwrap_or-is_set.result, set) refl
+
+pub overflow_add-value : goal.overflow_add-value
+overflow_add-value c =
+    let l = c.loop-bit in
+    let small = bit_small (get_or c.args.flags.now (c.args.byte * byte_bits + (l.bit - 1)) false) in
+    omega (arith, bit c, small, l.invariant, upper_room c.args.flags.now c.args.byte l.bit c.loop-bit-test.true)
+
+pub loop-bit-preserved : goal.loop-bit-preserved
+loop-bit-preserved c =
+    let l = c.loop-bit in
+    let next = l.bit - 1 in
+    let one : l.bit ≡ next + 1 = omega (arith, c.loop-bit-test.true) in
+    let more = upper_more c.args.flags.now c.args.byte {left = next} (omega (arith, l.auto.bit)) in
+    omega (arith, bit c, rw one at l.invariant, more)
 
 pub returns : goal.returns
 returns c =
-    let l = c.loop-left in
-    let a = c.args in
-    let none : l.left ≡ 0 = omega (arith, c.loop-left-test.false) in
-    (rw none at l.invariant.0) ∙ upper_all a.flags.now a.byte
+    let l = c.loop-bit in
+    let none : l.bit ≡ 0 = omega (arith, c.loop-bit-test.false) in
+    (rw none at l.invariant) ∙ upper_all c.args.flags.now c.args.byte

@@ -1,49 +1,26 @@
--- `ticking::tries::find` meets its contract. The invariant: so many of the k are left, and they are sought from the pair `at` on.
-use Prim.Native.Nat.{◌*◌}
-use mathlib.Core.Path.{sym}
-use native.Mathlib.Omega.{arith}
-use lib.IntN.{pos}
-use lib.ListN.{get_or}
-use mir.Syntax.{w32}
-use mir.Val.{SFits}
-use mir.Facts.{to_z-of_z}
+-- `ticking::tries::find` meets its contract: of the pairs, those of the signal are kept, and the k-th of their numbers is answered.
+use Prim.Native.Nat.{◌-◌}
+use mathlib.Core.Path.{sym, ◌∙◌}
+use lib.ListN.{take}
 use borrow.Author.Rules.{rules}
-use borrow.Author.Tests.{lt-ltb, le-ltb}
-use Rattle.ticking.proofs.Seeking.{sought_all, passes, counts, found, lost}
-use Rattle.ticking.proofs.tries.find.Goals.{then-is_signal+else-left-le1, else-is_signal}
+use borrow.Author.Tests.{tests}
+use Rattle.std.proofs.lemmas.Iterator.{YieldsList-from_slice, YieldsList-from_map}
+use Rattle.std.proofs.lemmas.Iterator.Adapters.{option_map_id}
+use Rattle.std.proofs.lemmas.Iterator.Consumers.{YieldsList-from_filter, YieldsList-at, nth_from_yields_List}
+use Rattle.ticking.proofs.Seeking.{chunks, number_in, is_of, numbers_in, kth}
 use Rattle.ticking.proofs.tries.find.Goals as goal
-
-pub loop-at-init : goal.loop-at-init
-loop-at-init c = (sought_all _ _ _ _ c.requires.2, search rules)
-
-pub returns-then-left-le1 : goal.returns-then-left-le1
-returns-then-left-le1 c =
-    let l = c.before.before.before.before.before in
-    let a = l.args in
-    let f : SFits w32 (get_or a.given.now (2 * l.loop-at.at) (pos 0)) = search rules in
-    let test = rw (to_z-of_z f, c.if-is_signal.true) at c.is_signal.ensures in
-    let below = c.loop-at-test.true in
-    let it = found _ _ _ _ l.requires.0 _ _ l.loop-at.invariant.0 below (sym test) c.if-left-le1.true in
-    record { count_value = rw (lt-ltb _ _ below) (sym it.0); pos_value = λ h. it.1 }
-
-pub loop-at-preserved : goal.loop-at-preserved
-loop-at-preserved c =
-    let l = c.before.before.before.before in
-    let a = l.args in
-    let f : SFits w32 (get_or a.given.now (2 * l.loop-at.at) (pos 0)) = search rules in
-    let test = rw (to_z-of_z f) at c.is_signal.ensures in
-    let below = c.loop-at-test.true in
-    let inv = l.loop-at.invariant.0 in
-    let fits = l.requires.0 in
-    elim c.if-is_signal.branch [
-      | then-is_signal+else-left-le1 w ↦
-          (rw w.left-is (counts _ _ _ _ fits _ _ inv below (sym (rw w.if-is_signal.true at test)) w.if-left-le1.false), search rules)
-      | else-is_signal w ↦ (rw w.left-is (passes _ _ _ _ fits _ _ inv below (sym (rw w.if-is_signal.false at test))), search rules)
-    ]
 
 pub returns : goal.returns
 returns c =
-    let l = c.before in
-    let all = l.args.count in
-    let none = lost _ _ _ _ l.requires.0 _ _ l.loop-at.invariant.0 c.loop-at-test.false in
-    record { count_value = rw none (le-ltb all all (omega arith)); pos_value = λ h. absurd (omega (arith, h)) }
+    let a = c.args in
+    let pairs = take a.count (chunks a.given.now) in
+    let found =
+    nth_from_yields_List c.nth.result c.nth.new.self (a.k - 1) c.nth.ensures.ran
+    (YieldsList-from_map _ number_in
+    (YieldsList-at c.map.ensures.source
+    (YieldsList-from_filter _ (is_of a.e)
+    (YieldsList-at c.filter.ensures.source (YieldsList-from_slice pairs (search rules)))
+    c.filter.ensures.closure (λ x b q k. search (rules, tests))))
+    c.map.ensures.closure (λ x r q k. search (rules, tests)))
+    in
+    rw numbers_in (sym (option_map_id c.nth.result) ∙ found ∙ kth _ a.k c.requires.2)
