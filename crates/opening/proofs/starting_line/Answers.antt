@@ -1,4 +1,5 @@
 -- `opening::starting_line` meets its contract: each entry is the row's; from `count` on the row has 0.
+use Prim.Native.Nat.{◌<◌}
 use mathlib.Core.Path.{◌≡◌, ◌∙◌, sym}
 use native.Mathlib.Omega.{arith}
 use native.Mathlib.Decide.{dec_lt}
@@ -29,7 +30,9 @@ returns c =
     (λ i h.
     elim (dec_lt i count) [
       | yes k ↦ l.invariant.row i (omega (arith, k, c.loop-at-test.false))
-      | no k ↦ l.invariant.beyond i (omega (arith, k, l.auto.at-end)) (omega (arith, h, l.invariant.long)) ∙ sym (c.requires.beyond i (omega (arith, k)) (omega (arith, h, l.invariant.long)))
+      | no k ↦
+          let near : i < most_entries = omega (arith, h, l.invariant.long) in
+          l.invariant.beyond i (omega (arith, k, l.auto.at-end)) near ∙ sym (c.requires.beyond i (omega (arith, k)) near)
     ])
     in
     rw same
