@@ -24,9 +24,9 @@ impl fmt::Write for Output {
     }
 }
 
-// Prints a line.
+// Prints a line, whose end is part of its text: each part is a write of its own, and the end would be one more.
 fn tell<D: fmt::Display + Drop>(line: D) {
-    let _ = Output.writeln(line);
+    let _ = write!(Output, "{line}");
 }
 
 // A number and a place.
@@ -71,9 +71,9 @@ impl fmt::Display for Compared {
         let found = self.found;
         let expected = self.expected;
         if self.is_same() {
-            return write!(f, "{found} =");
+            return write!(f, "{found} =\n");
         }
-        write!(f, "{found} expected {expected}")
+        write!(f, "{found} expected {expected}\n")
     }
 }
 
@@ -87,8 +87,8 @@ enum Unread {
 impl fmt::Display for Unread {
     fn fmt<W: fmt::Write>(&self, f: &mut fmt::Formatter<W>) -> fmt::Result {
         f.write_str(match self {
-            Unread::Unreadable => "not a line of number, place and book",
-            Unread::TooLong => "book too long",
+            Unread::Unreadable => "not a line of number, place and book\n",
+            Unread::TooLong => "book too long\n",
         })
     }
 }
@@ -136,13 +136,13 @@ fn check_lines(text: &[u8]) {
             differ = differ.saturating_add(1);
         }
     }
-    tell(format_args!("{books} books, {differ} differ"));
+    tell(format_args!("{books} books, {differ} differ\n"));
 }
 
 fn run(buffer: &mut [u8; INPUT]) {
     let n = io::read_full(0, buffer);
     if n == INPUT {
-        tell("input too long");
+        tell("input too long\n");
         return;
     }
     check_lines(part(buffer, n));

@@ -1,6 +1,6 @@
 // Games that are stored in a buffer, and read from bytes.
 use crate::buffers::{UNTOUCHED, check_bytes, lend};
-use scripts::{Bytes, Hex, NotCommand, State, Told, tell};
+use scripts::{Bytes, NotCommand, State, Told, print_bytes, tell};
 use storing::Stored;
 use words::part;
 
@@ -10,8 +10,8 @@ pub const LONGEST_BUFFER: usize = 1024;
 fn print_stored(stored: &Stored, buffer: &[u8]) {
     let verdict = Told(stored.verdict);
     let length = stored.length;
-    let bytes = Hex(part(buffer, length));
-    tell(format_args!("store {verdict} {length} {bytes}"));
+    let bytes = part(buffer, length);
+    print_bytes(format_args!("store {verdict} {length}"), bytes);
 }
 
 // Stores the game in a buffer of so many bytes as `text` says.

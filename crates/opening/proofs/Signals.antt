@@ -1,4 +1,4 @@
--- Action 2 puts the signals into the last row of flags, one by one. It is then that row, and the rows before it are as they were.
+-- Action 2 copies the signals into the last row of flags. It is then that row, and the rows before it are as they were.
 use Prim.Native.Nat.{ℕ, suc, ◌+◌, ◌≤◌}
 use mathlib.Core.Path.{◌≡◌, ◌∙◌, refl}
 use mathlib.Core.Bool.{Bool}

@@ -12,7 +12,7 @@ use game::Game;
 use hexadecimal::{LONGEST, read_bytes};
 pub use pokes::Poked;
 use printing::print_game;
-pub use printing::{Hex, Numbers, Told, tell};
+pub use printing::{Numbers, Told, print_bytes, tell};
 use words::{first, part, rest};
 
 // A line that is no command.
@@ -121,8 +121,7 @@ impl State {
     fn show(&self, text: &[u8]) -> Result<(), NotCommand> {
         let routine = decimal(text).ok_or(NotCommand)?;
         // By `as`, here and in `poke`: usize has no From<u32>.
-        let steps = Hex(reading::show(self.book(), routine as usize));
-        tell(format_args!("show {steps}"));
+        print_bytes("show", reading::show(self.book(), routine as usize));
         Ok(())
     }
 

@@ -2,7 +2,7 @@
 -- within the limits of a book's counts.
 use Prim.Native.Nat.{ℕ, suc, ◌<◌}
 use mathlib.Core.Path.{◌≡◌, sym, ap, ◌∙◌}
-use mathlib.Core.Bool.{false}
+use mathlib.Core.Bool.{true, false}
 use mathlib.Core.List.{List}
 use native.Mathlib.Omega.{arith}
 use borrow.Author.Tests.{ne_eqb}
@@ -48,11 +48,22 @@ module _ (f : Form) (book : List ℕ) (g : Game) (out : List ℕ) where
       pub unfit_refuses : v ≡ refused 9 0 → fits_book book g ≡ false → Refuses
       unfit_refuses e h = by_reason e (StoreReason.unfit a (λ fits. clash ((fits_decides book a.laid.counts g).1 fits) h))
 
-      -- 14, for a game that is known to fit
-      pub short_refuses : v ≡ refused short_buffer 0 → Fits book g → length out < length (stored f g) → Refuses
-      short_refuses e fits l = by_reason e (StoreReason.short a fits l)
+      -- 14, for a game that is known to fit, and for one that was tested
+      pub short_refuses_fitting : v ≡ refused short_buffer 0 → Fits book g → length out < length (stored f g) → Refuses
+      short_refuses_fitting e fits l = by_reason e (StoreReason.short a fits l)
+
+      pub short_refuses : v ≡ refused short_buffer 0 → fits_book book g ≡ true → length out < length (stored f g) → Refuses
+      short_refuses e h l = short_refuses_fitting e ((fits_decides book a.laid.counts g).0 h) l
 
 pub fitting_within : {book : List ℕ} {g : Game} → Accepted book → Fits book g → WithinLimits g.counts
 fitting_within a fits =
     let range = a.laid.counts in
     rw fits.numbers (record { routines = range.few_routines; counters = range.few_counters })
+
+-- the same of a game that was tested
+module _ {book : List ℕ} (a : Accepted book) (g : Game) (h : fits_book book g ≡ true) where
+  pub passed_fits : Fits book g
+  passed_fits = (fits_decides book a.laid.counts g).0 h
+
+  pub passed_within : WithinLimits g.counts
+  passed_within = fitting_within a passed_fits

@@ -57,8 +57,13 @@ impl Text<'_> {
 
     // Prints the bytes that are used.
     pub fn print(&self) {
-        io::write_all(1, part(self.out, self.used));
+        print(self.out, self.used);
     }
+}
+
+// The same of a buffer that is lent to be read alone.
+pub fn print(out: &[u8], used: usize) {
+    io::write_all(1, part(out, used));
 }
 
 // In decimal.

@@ -13,8 +13,7 @@ use Rattle.numbers.proofs.Tests.{clash}
 use Rattle.layout.specs.Layout.{most_routines, routines_of}
 use Rattle.book.specs.Accepted.{Accepted}
 use Rattle.unstarted.specs.Chains.{Chain, empty, then}
-use Rattle.unstarted.specs.declared.Search.{Search}
-use Rattle.unstarted.specs.Unstarted.{none_found, is_found, with_found, found_in, no_flags}
+use Rattle.unstarted.specs.Unstarted.{Search, none_found, is_found, with_found, found_in, no_flags}
 use Rattle.unstarted.proofs.Finding.{IsFound, Right, found_right, now_found}
 use Rattle.unstarted.proofs.Searching.{Complete, found_all}
 

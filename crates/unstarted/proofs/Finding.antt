@@ -16,8 +16,7 @@ use Rattle.numbers.proofs.Tests.{clash, neither, by_test, by_flag}
 use Rattle.layout.specs.Layout.{most_routines, routines_of}
 use Rattle.book.specs.Accepted.{Accepted}
 use Rattle.unstarted.specs.Chains.{Starts, Chain}
-use Rattle.unstarted.specs.declared.Search.{Search}
-use Rattle.unstarted.specs.Unstarted.{search_of, is_found, with_found}
+use Rattle.unstarted.specs.Unstarted.{Search, search_of, is_found, with_found}
 use Rattle.unstarted.proofs.Starts.{chain_below}
 use Rattle.unstarted.proofs.Flags.{flags_set, one_more, fewer}
 

@@ -19,8 +19,7 @@ use Rattle.directory.specs.Directory.{step_count, routine_steps, routine_step}
 use Rattle.book.specs.Accepted.{Accepted}
 use Rattle.book.proofs.Routines.{routine_steps_lem}
 use Rattle.unstarted.specs.Chains.{Starts, Chain, then}
-use Rattle.unstarted.specs.declared.Search.{Search}
-use Rattle.unstarted.specs.Unstarted.{is_found, with_found, with_step, with_steps, with_starts, found_from}
+use Rattle.unstarted.specs.Unstarted.{Search, is_found, with_found, with_step, with_steps, with_starts, found_from}
 use Rattle.unstarted.proofs.Starts.{start_op, start_field, starts_there, chain_below}
 use Rattle.unstarted.proofs.Finding.{IsFound, entry, IsEntry, Right, Closed, ClosedBefore, found_stays, entry_stays}
 use Rattle.unstarted.proofs.Finding.{closed_stays, found_right, now_found}

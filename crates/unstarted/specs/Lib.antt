@@ -1,4 +1,5 @@
 pub mod Chains
 pub mod Unstarted
+pub mod Seen
 pub mod Claims
 pub mod Examples

@@ -10,9 +10,14 @@ use Rattle.verdicts.specs.Verdicts.{refused, ◌or_else◌, unless}
 use Rattle.layout.specs.Layout.{most_routines, routines_of}
 use Rattle.directory.specs.Directory.{routine_steps}
 use Rattle.book.specs.Book.{book_verdict}
-use Rattle.unstarted.specs.declared.Search.{Search}
 
--- what a search has found so far
+-- what a search has found so far: a flag for each number that a byte can hold, and those found, in the order in which they were found, so
+-- many
+pub record Search : Type 0 where
+  pub flags : List Bool
+  pub order : List ℕ
+  pub count : ℕ
+
 abbrev pub search_of : List Bool → List ℕ → ℕ → Search
 search_of flags order count = record { flags = flags; order = order; count = count }
 

@@ -7,6 +7,7 @@ ghost use Rattle.kinds.specs.Steps.{steps_in};
 ghost use Rattle.verdicts.specs.Verdicts.{verdict_of};
 ghost use Rattle.layout.specs.Layout.{most_routines};
 ghost use Rattle.unstarted.specs.Unstarted as definition;
+ghost use Rattle.unstarted.specs.Seen.{seen};
 
 use directory::routine_steps;
 use kinds::STEP_BYTES;
@@ -29,18 +30,19 @@ pub struct UnstartedNames {
 }
 
 // What a search has found so far: a flag for each number that a byte can hold, and the routines found, in the order in which they were
-// found, so many: an array and how many of its entries count, since there is no heap.
-#[derive(Clone, Copy)]
-struct Search {
-    flags: [bool; BYTE_LIMIT],
-    order: [u8; MOST_ROUTINES],
+// found, so many: an array and how many of its entries count, since there is no heap. The two arrays are lent: in one struct they would be
+// cleared at once, by a call of C's memset, and a program in C can take this without a C library.
+#[derive(Drop)]
+struct Search<'a> {
+    flags: &'a mut [bool; BYTE_LIMIT],
+    order: &'a mut [u8; MOST_ROUTINES],
     count: usize,
 }
 
-impl Search {
+impl Search<'_> {
     // A routine is found. A full list takes no more.
     fn find(&mut self, routine: u8)
-        ensures { self.new ≡ definition.with_found routine self.old }
+        ensures { seen self.new ≡ definition.with_found routine (seen self.old) }
     {
         let flag = usize::from(routine);
         if !self.flags[flag] && self.count < MOST_ROUTINES {
@@ -52,7 +54,7 @@ impl Search {
 
     // What some steps start is found.
     fn find_starts(&mut self, steps: &[u8])
-        ensures { self.new ≡ definition.with_steps (steps_in steps.now) steps.now 0 self.old }
+        ensures { seen self.new ≡ definition.with_steps (steps_in steps.now) steps.now 0 (seen self.old) }
     {
         for step in steps.chunks_exact(STEP_BYTES) {
             if step[0] == OP_START {
@@ -63,21 +65,39 @@ impl Search {
 
     // What a routine starts is found.
     fn find_starts_of(&mut self, book: &[u8], routine: u8)
-        ensures { self.new ≡ definition.with_starts book.now routine self.old }
+        ensures { seen self.new ≡ definition.with_starts book.now routine (seen self.old) }
     {
         self.find_starts(routine_steps(book, usize::from(routine)));
+    }
+
+    // From routine 0 on: finds it, what it starts, what those start, and so on. The steps of each are looked at once.
+    fn look_through(&mut self, book: &[u8])
+        ensures { seen self.new
+            ≡ definition.found_from most_routines book.now 0 (definition.with_found 0 (seen self.old)) }
+    {
+        self.find(0);
+        // By index: the list grows while it is gone through, so no iterator may borrow it.
+        for at in 0..MOST_ROUTINES {
+            if self.count <= at {
+                break;
+            }
+            let routine = self.order[at];
+            self.find_starts_of(book, routine);
+        }
     }
 
     // Writes down those of the first routines that are not found, and answers how many they are.
     fn write_names(&self, all: usize, names: &mut [u8]) -> usize
         requires { (all ≤ most_routines) × (all ≤ length names.old) }
-        ensures value { result ≡ length (definition.not_found self.now.flags all 0) }
-        ensures names_after { names.new ≡ with_front (definition.not_found self.now.flags all 0) names.old }
+        ensures value { result ≡ length (definition.not_found self.now.flags.now all 0) }
+        ensures names_after { names.new ≡ with_front (definition.not_found self.now.flags.now all 0) names.old }
     {
+        // A loan of its own: the check covers no read of an array's element behind a `&` and a `&mut`.
+        let flags = &*self.flags;
         // Counted by hand: only a name that is written takes a place of the buffer.
         let mut count: usize = 0;
         for routine in 0..all {
-            if !self.flags[routine] {
+            if !flags[routine] {
                 // `as`: below MOST_ROUTINES nothing is lost, and try_from would give an Err to handle.
                 names[count] = routine as u8;
                 count += 1;
@@ -85,27 +105,6 @@ impl Search {
         }
         count
     }
-}
-
-// The routines to which a chain of starts leads from routine 0. The steps of each are looked at once.
-fn look_through(book: &[u8]) -> Search
-    ensures { result ≡ definition.found_in book.now definition.no_flags }
-{
-    let mut found = Search {
-        flags: [false; BYTE_LIMIT],
-        order: [0; MOST_ROUTINES],
-        count: 0,
-    };
-    found.find(0);
-    // By index: the list grows while it is gone through, so no iterator may borrow it.
-    for at in 0..MOST_ROUTINES {
-        if found.count <= at {
-            break;
-        }
-        let routine = found.order[at];
-        found.find_starts_of(book, routine);
-    }
-    found
 }
 
 // Writes the names of the routines that no chain of start steps leads to into a buffer, and answers how many they are.
@@ -118,7 +117,15 @@ fn write_unstarted(book: &[u8], names: &mut [u8]) -> Result<usize, Refusal>
     if names.len() < all {
         return Err(Refusal::ShortNames);
     }
-    Ok(look_through(book).write_names(all, names))
+    let mut flags = [false; BYTE_LIMIT];
+    let mut order = [0; MOST_ROUTINES];
+    let mut found = Search {
+        flags: &mut flags,
+        order: &mut order,
+        count: 0,
+    };
+    found.look_through(book);
+    Ok(found.write_names(all, names))
 }
 
 // Names the routines that no chain of start steps leads to from routine 0: "12, after 1 to 7". A refusal leaves the buffer as lent.

@@ -2,11 +2,12 @@
 use Prim.Native.Nat.{ℕ}
 use mathlib.Core.Path.{◌≡◌, refl, sym, ap, ◌∙◌}
 use native.Mathlib.Omega.{arith}
+use Rattle.std.specs.Prelude.{Result, Ok, Err}
 use Rattle.verdicts.specs.declared.Refusal.{Refusal}
 use Rattle.verdicts.specs.declared.Refusal.TheVariants.{TooShort, WrongCount, WrongLayout, WrongEntry, WrongStep}
 use Rattle.verdicts.specs.declared.Refusal.TheVariants.{WrongNesting, WithoutPause, WrongOrder, Unfit, ShortMarks, ShortNames, WrongForm, ShortBuffer}
 use Rattle.verdicts.specs.declared.Verdict.{Verdict}
-use Rattle.verdicts.specs.Verdicts.{told, ◌or_else◌}
+use Rattle.verdicts.specs.Verdicts.{told, verdict_of, ◌or_else◌}
 use Rattle.verdicts.proofs.First.{or_else_refused}
 
 pub refuses : (e : Refusal) → (told e).number ≡ 0 → ⊥
@@ -38,6 +39,11 @@ told_six ShortMarks n z = omega arith
 told_six ShortNames n z = omega arith
 told_six WrongForm n z = omega arith
 told_six ShortBuffer n z = omega arith
+
+pub not_six :
+    {T : Type 0} (a : Result T Refusal) → ((i : ℕ) → a ≡ Err (WrongNesting i) → ⊥) → (verdict_of a).number ≡ 6 → ⊥
+not_six (Ok x) n z = omega arith
+not_six (Err e) n z = told_six e (λ i h. n i (ap Err h)) z
 
 -- so it is what is told where it comes first
 pub told_first : (e : Refusal) {v : Verdict} (w : Verdict) → told e ≡ v → told e ≡ (v or_else w)

@@ -10,7 +10,7 @@ use Rattle.lines.specs.Lines.{used_of}
 use Rattle.stored_games.specs.Stored.{stored, length_of}
 use Rattle.stored_games.proofs.Ends.{stored_length}
 use Rattle.stored_games.proofs.Keeping.{stores}
-use Rattle.storing.proofs.Answers.{short_refuses, fitting_within}
+use Rattle.storing.proofs.Answers.{short_refuses_fitting, fitting_within}
 use Rattle.game.specs.declared.Game.{Game}
 use Rattle.fitting.specs.Fits.{Fits}
 use Rattle.stored_games.specs.declared.Form.{Form}
@@ -35,7 +35,7 @@ pub returns-then-out-stored_length : goal.returns-then-out-stored_length
 returns-then-out-stored_length c =
     let (book, fits) = c.requires in
     let long = long c.args.form.usable fits c.stored_length.ensures c.used.ensures.0 c.used-2.ensures.0 in
-    short_refuses _ _ _ _ _ book refl fits (omega (arith, long, c.if-out-stored_length.true))
+    short_refuses_fitting _ _ _ _ _ book refl fits (omega (arith, long, c.if-out-stored_length.true))
 
 pub write_game-requires : goal.write_game-requires
 write_game-requires c =

@@ -7,8 +7,8 @@ use borrow.Author.Tests.{eq-eqb, ne_eqb}
 use lib.ListN.{length, get_or, get_or-append, length-append}
 use Rattle.std.proofs.lemmas.List.{get_or-append-add}
 use Rattle.kinds.specs.Steps.{steps_in}
-use Rattle.unstarted.specs.declared.Search.{Search}
-use Rattle.unstarted.specs.Unstarted.{with_step, with_steps}
+use Rattle.unstarted.specs.Unstarted.{Search, with_step, with_steps}
+use Rattle.unstarted.specs.Seen.{seen}
 use Rattle.unstarted.proofs.Search.find_starts.Goals as goal
 
 -- a step before others
@@ -45,7 +45,7 @@ loop-step-preserved c =
     let next = c.in-Some.ensures.steps in
     record {
       left =
-          taken c.in-Some.step.now c.next.new.self.rest.now (next.1.1 ∙ l.invariant.size) l.self _ _ next.1.0
+          taken c.in-Some.step.now c.next.new.self.rest.now (next.1.1 ∙ l.invariant.size) (seen l.self) _ _ next.1.0
           (rw (ne_eqb _ _ c.if-step-eq-OP_START.false)) ∙ l.invariant.left;
       size = next.0 ∙ l.invariant.size;
     }
@@ -56,7 +56,7 @@ loop-step-preserved-then-step-eq-OP_START c =
     let next = c.in-Some.ensures.steps in
     record {
       left =
-          taken c.in-Some.step.now c.next.new.self.rest.now (next.1.1 ∙ l.invariant.size) l.self c.find.new.self _ next.1.0
+          taken c.in-Some.step.now c.next.new.self.rest.now (next.1.1 ∙ l.invariant.size) (seen l.self) (seen c.find.new.self) _ next.1.0
           (rw (eq-eqb _ _ c.if-step-eq-OP_START.true) c.find.ensures) ∙ l.invariant.left;
       size = next.0 ∙ l.invariant.size;
     }
@@ -64,4 +64,4 @@ loop-step-preserved-then-step-eq-OP_START c =
 pub returns : goal.returns
 returns c =
     let l = c.loop-step in
-    sym (none_left l.step-iterator.rest.now l.self (omega (arith, c.in-None.ensures.steps.1, l.invariant.size))) ∙ l.invariant.left
+    sym (none_left l.step-iterator.rest.now (seen l.self) (omega (arith, c.in-None.ensures.steps.1, l.invariant.size))) ∙ l.invariant.left

@@ -10,7 +10,7 @@ use Rattle.numbers.proofs.Left.{more_left}
 use Rattle.numbers.proofs.Buffers.{part_one}
 use Rattle.unstarted.specs.Unstarted.{is_found, not_found}
 use Rattle.unstarted.proofs.Search.write_names.Invariants.{left}
-use Rattle.unstarted.proofs.Search.write_names.Goals.{then-not-self-routine, else-not-self-routine}
+use Rattle.unstarted.proofs.Search.write_names.Goals.{then-not-flags-routine, else-not-flags-routine}
 use Rattle.unstarted.proofs.Search.write_names.Goals as goal
 
 -- the names from routine r on, and from the one behind it
@@ -30,14 +30,14 @@ module _ (flags : List Bool) (all r : ℕ) where
 pub loop-routine-preserved : goal.loop-routine-preserved
 loop-routine-preserved c =
     let l = c.loop-routine in
-    let flags = c.args.self.now.flags in
+    let flags = c.args.self.now.flags.now in
     let all = c.args.all in
     let r = l.routine in
     let more = c.loop-routine-test.true in
     let inv = l.invariant in
-    elim c.if-not-self-routine.branch [
-      | then-not-self-routine w ↦
-          let here = named flags all r more w.if-not-self-routine.true in
+    elim c.if-not-flags-routine.branch [
+      | then-not-flags-routine w ↦
+          let here = named flags all r more w.if-not-flags-routine.true in
           let room : l.count < length l.names = omega (arith, inv.few, inv.size, more, c.requires.1) in
           rw (w.names-is, w.count-is)
           (record {
@@ -46,8 +46,8 @@ loop-routine-preserved c =
             few = omega (arith, inv.few);
             size = length-set l.names l.count r ∙ inv.size;
           })
-      | else-not-self-routine w ↦
-          let here = passed flags all r more w.if-not-self-routine.false in
+      | else-not-flags-routine w ↦
+          let here = passed flags all r more w.if-not-flags-routine.false in
           rw (w.names-is, w.count-is)
           (record { buffer = rw here at inv.buffer; named = rw here at inv.named; few = omega (arith, inv.few); size = inv.size })
     ]
@@ -55,7 +55,7 @@ loop-routine-preserved c =
 pub returns : goal.returns
 returns c =
     let l = c.loop-routine in
-    let none = over c.args.self.now.flags c.args.all l.routine c.loop-routine-test.false in
+    let none = over c.args.self.now.flags.now c.args.all l.routine c.loop-routine-test.false in
     record {
       value = omega (arith, rw none at l.invariant.named);
       names_after = sym (take-append-drop l.count l.names) ∙ (rw none at l.invariant.buffer);

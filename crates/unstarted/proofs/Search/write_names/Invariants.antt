@@ -15,8 +15,10 @@ left flags all r = not_found flags (all - r) r
 
 abbrev pub invariant-loop-routine : goal.invariant-loop-routine
 invariant-loop-routine l = record {
-  buffer : with_part l.count (left l.self.flags l.all l.routine) l.names ≡ with_front (not_found l.self.flags l.all 0) l.initial.names;
-  named : l.count + length (left l.self.flags l.all l.routine) ≡ length (not_found l.self.flags l.all 0);
+  buffer :
+      with_part l.count (left l.self.flags.now l.all l.routine) l.names
+      ≡ with_front (not_found l.self.flags.now l.all 0) l.initial.names;
+  named : l.count + length (left l.self.flags.now l.all l.routine) ≡ length (not_found l.self.flags.now l.all 0);
   few : l.count ≤ l.routine;
   size : length l.names ≡ length l.initial.names;
 }

@@ -1,4 +1,4 @@
--- `look_through` meets its contract: each turn of the loop takes the routine at `at` out of those that are left to look through.
+-- `Search::look_through` meets its contract: each turn of the loop takes the routine at `at` out of those that are left to look through.
 use Prim.Native.Nat.{ℕ, ◌+◌, ◌-◌, ◌≤◌, ◌<◌}
 use mathlib.Core.Path.{◌≡◌, sym, ◌∙◌}
 use mathlib.Core.List.{List}
@@ -7,9 +7,9 @@ use borrow.Author.Tests.{lt-ltb, le-ltb}
 use lib.ListN.{get_or}
 use Rattle.numbers.proofs.Left.{more_left}
 use Rattle.layout.specs.Layout.{most_routines}
-use Rattle.unstarted.specs.declared.Search.{Search}
-use Rattle.unstarted.specs.Unstarted.{with_starts, found_from, found_in}
-use Rattle.unstarted.proofs.look_through.Goals as goal
+use Rattle.unstarted.specs.Unstarted.{Search, with_starts, found_from}
+use Rattle.unstarted.specs.Seen.{seen}
+use Rattle.unstarted.proofs.Search.look_through.Goals as goal
 
 module _ (book : List ℕ) (most at : ℕ) (f : Search) where
   goes :
@@ -27,18 +27,20 @@ module _ (book : List ℕ) (most at : ℕ) (f : Search) where
   ends h = rw (sub-eq-zero_of_le h)
 
 pub loop-at-init : goal.loop-at-init
-unfolding found_in
 loop-at-init c = rw c.find.ensures
 
 pub loop-at-preserved : goal.loop-at-preserved
 loop-at-preserved c =
+    let l = c.loop-at in
     rw c.find_starts_of.ensures
-    (sym (goes c.args.book.now most_routines c.loop-at.at c.loop-at.found c.loop-at-test.true c.if-found-at.false) ∙ c.loop-at.invariant)
+    (sym (goes c.args.book.now most_routines l.at (seen l.self) c.loop-at-test.true c.if-self-at.false) ∙ l.invariant)
 
-pub returns-then-found-at : goal.returns-then-found-at
-returns-then-found-at c =
-    sym (over c.args.book.now most_routines c.loop-at.at c.loop-at.found c.loop-at-test.true c.if-found-at.true) ∙ c.loop-at.invariant
+pub returns-then-self-at : goal.returns-then-self-at
+returns-then-self-at c =
+    let l = c.loop-at in
+    sym (over c.args.book.now most_routines l.at (seen l.self) c.loop-at-test.true c.if-self-at.true) ∙ l.invariant
 
 pub returns-after-loop-at : goal.returns-after-loop-at
 returns-after-loop-at c =
-    sym (ends c.args.book.now most_routines c.loop-at.at c.loop-at.found c.loop-at-test.false) ∙ c.loop-at.invariant
+    let l = c.loop-at in
+    sym (ends c.args.book.now most_routines l.at (seen l.self) c.loop-at-test.false) ∙ l.invariant
